@@ -1,0 +1,154 @@
+-- A host byte: reading, executing, resuming (document 01, "Reading commands").
+use Prim.Native.Nat.{ℕ}
+use mathlib.Core.Bool.{Bool, true, false, cond}
+use mathlib.Core.List.{List, [], _∷_, _++_}
+use Rattle.output.specs.Packets.{Packet, version, bytes}
+use Rattle.clock.specs.declared.Clock.{Clock}
+use Rattle.clock.specs.Setting.{set-to, report}
+use Rattle.protocol.specs.declared.Settings.{Settings}
+use Rattle.protocol.specs.Codes.{MouseCommand, StickCommand, OtherCommand, resume, mouse-off, set-clock, report-clock, Meaning, nothing, memory, pause, reset, of-mouse, of-stick, of-other, inquire, meaning-of}
+use Rattle.protocol.specs.Reading.{Fed, half, whole, feed, command-after, no-command}
+use Rattle.protocol.specs.Commands.{executed, sets, settings-after}
+use Rattle.protocol.specs.Replies.{reply}
+use Rattle.mouse.specs.declared.Mouse.{Mouse}
+use Rattle.mouse.specs.Moves.{released}
+use Rattle.mouse.specs.Commands.{commanded, switched-off}
+use Rattle.sticks.specs.declared.Sticks.{Sticks}
+use Rattle.sticks.specs.Commands as sticks
+use Rattle.controller.specs.declared.Queue.{Queue}
+use Rattle.controller.specs.declared.State.{State}
+use Rattle.controller.specs.State.{contents, empty-queue, reset-but}
+
+-- What an input leads to if it is taken.
+pub record Due : Type 0 where
+  -- the packets that fall due by it, in order (document 01's "due")
+  pub packets : List Packet
+  -- the bytes due now
+  pub written : List ℕ
+  -- the bytes to be queued
+  pub queued : List ℕ
+  -- the bytes of the queue that a reset drops
+  pub dropped : List ℕ
+  pub state : State
+
+-- nothing falls due
+abbrev pub silent : State → Due
+silent s = record { packets = []; written = []; queued = []; dropped = []; state = s }
+
+-- what an executed command does besides the settings: its own packet, and the parts of the state
+pub record Effect : Type 0 where
+  pub packets : List Packet
+  pub mouse : Mouse
+  pub sticks : Sticks
+  pub clock : Clock
+
+unfoldable pub mouse-effect : MouseCommand → List ℕ → Settings → Mouse → Sticks → Clock → Effect
+mouse-effect c ps σ m k t = record {
+  packets = commanded c ps (σ .mouse) m .packets;
+  mouse = commanded c ps (σ .mouse) m .mouse;
+  sticks = sticks.mouse-commanded c (σ .stick) k;
+  clock = t;
+}
+
+unfoldable pub stick-effect : StickCommand → Settings → Mouse → Sticks → Clock → Effect
+stick-effect c σ m k t = record {
+  packets = sticks.commanded c (σ .stick) k .packets;
+  mouse = m;
+  sticks = sticks.commanded c (σ .stick) k .sticks;
+  clock = t;
+}
+
+unfoldable pub other-effect : OtherCommand → List ℕ → Mouse → Sticks → Clock → Effect
+other-effect resume ps m k t = record { packets = []; mouse = m; sticks = k; clock = t }
+other-effect mouse-off ps m k t = record { packets = []; mouse = switched-off m; sticks = k; clock = t }
+other-effect set-clock ps m k t = record { packets = []; mouse = m; sticks = k; clock = set-to ps t }
+other-effect report-clock ps m k t = record { packets = report t ∷ []; mouse = m; sticks = k; clock = t }
+
+-- the commands that resume, acting on the parts as the resume leaves them; settings are those from before the command
+unfoldable pub effect : Meaning → List ℕ → Settings → Mouse → Sticks → Clock → Effect
+effect nothing ps σ m k t = record { packets = []; mouse = m; sticks = k; clock = t }
+effect memory ps σ m k t = record { packets = []; mouse = m; sticks = k; clock = t }
+effect pause ps σ m k t = record { packets = []; mouse = m; sticks = k; clock = t }
+effect reset ps σ m k t = record { packets = []; mouse = m; sticks = k; clock = t }
+effect (of-mouse c) ps σ m k t = mouse-effect c ps σ m k t
+effect (of-stick c) ps σ m k t = stick-effect c σ m k t
+effect (of-other c) ps σ m k t = other-effect c ps m k t
+effect (inquire q) ps σ m k t = record { packets = reply q σ ∷ []; mouse = m; sticks = k; clock = t }
+
+-- "first resumes: the queue is written, then held motion that is due (if the mouse is live)": the motion's packets, and the mouse afterwards
+abbrev pub resumed-packets : State → List Packet
+resumed-packets s = cond (s .paused) (released (s .settings) (s .mouse) .packets) []
+
+abbrev pub resumed-mouse : State → Mouse
+resumed-mouse s = cond (s .paused) (released (s .settings) (s .mouse) .mouse) (s .mouse)
+
+-- "and only then the command acts"
+unfoldable pub acted : Meaning → List ℕ → State → Due
+acted m ps s =
+    let e = effect m ps (s .settings) (resumed-mouse s) (s .sticks) (s .clock) in
+    record {
+      packets = resumed-packets s ++ e .packets;
+      written = contents (s .queue) ++ bytes (resumed-packets s ++ e .packets);
+      queued = [];
+      dropped = [];
+      state = record {
+        settings = sets m ps (s .settings);
+        command = no-command;
+        paused = false;
+        queue = empty-queue;
+        mouse = e .mouse;
+        sticks = e .sticks;
+        clock = e .clock;
+      };
+    }
+
+-- "0x13 pauses", and while paused changes nothing
+abbrev pub paused-now : State → State
+paused-now s = record {
+  settings = s .settings;
+  command = no-command;
+  paused = true;
+  queue = s .queue;
+  mouse = s .mouse;
+  sticks = s .sticks;
+  clock = s .clock;
+}
+
+-- "everything but the clock goes to power-up, queue and held motion are dropped, 0xF0 is sent"
+unfoldable pub reset-due : State → Due
+reset-due s = record {
+  packets = version ∷ [];
+  written = bytes (version ∷ []);
+  queued = [];
+  dropped = contents (s .queue);
+  state = reset-but (s .clock);
+}
+
+-- an executed command: "other than 0x13 and reset, first resumes"
+unfoldable pub executes : Meaning → List ℕ → State → Due
+executes nothing ps s = acted nothing ps s
+executes memory ps s = acted memory ps s
+executes pause ps s = silent (paused-now s)
+executes reset ps s = reset-due s
+executes (of-mouse c) ps s = acted (of-mouse c) ps s
+executes (of-stick c) ps s = acted (of-stick c) ps s
+executes (of-other c) ps s = acted (of-other c) ps s
+executes (inquire q) ps s = acted (inquire q) ps s
+
+-- the state with another half-received command
+abbrev pub reading : Fed → State → State
+reading f s = record {
+  settings = s .settings;
+  command = command-after f;
+  paused = s .paused;
+  queue = s .queue;
+  mouse = s .mouse;
+  sticks = s .sticks;
+  clock = s .clock;
+}
+
+-- "Codes that do nothing and ignored commands don't resume": they only end the half-received command
+unfoldable pub host-due : Fed → State → Due
+host-due (half c) s = silent (reading (half c) s)
+host-due (whole code ps) s =
+    cond (executed (meaning-of code) ps (s .settings)) (executes (meaning-of code) ps s) (silent (reading (whole code ps) s))

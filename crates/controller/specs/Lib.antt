@@ -1,0 +1,5 @@
+pub mod State
+pub mod Host
+pub mod Events
+pub mod Step
+pub mod Sequences

@@ -1,0 +1,1 @@
+// The promises to the customer: statements in specs/, proofs in proofs/.

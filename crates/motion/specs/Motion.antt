@@ -1,0 +1,72 @@
+-- Motion along one axis (document 01, "The mouse"). A motion has two sides of which one is 0, and stands for the integer plus - minus.
+-- What the two axes do together is said with the mouse.
+use Prim.Native.Nat.{ℕ, zero, suc, _+_, _-_, _*_, _/_, _%_, _≤_, min, max}
+use mathlib.Core.Path.{_≡_}
+use mathlib.Core.Bool.{Bool, true, false, cond}
+use lib.Dec.{leb}
+use lib.IntN.{ℤ, pos, negsuc, subℕ}
+use Rattle.motion.specs.declared.Motion.{Motion}
+use Rattle.motion.specs.declared.Motions.{Motions}
+
+-- the integer that a motion stands for
+abbrev pub value : Motion → ℤ
+value m = subℕ (m .plus) (m .minus)
+
+-- a representation fact: one side is 0
+abbrev pub OneSided : Motion → Type 0
+OneSided m = min (m .plus) (m .minus) ≡ 0
+
+-- how far it is, either way
+abbrev pub size : Motion → ℕ
+size m = m .plus + m .minus
+
+abbrev pub still : Motion
+still = record { plus = 0; minus = 0 }
+
+abbrev pub at-rest : Motions
+at-rest = record { x = still; y = still }
+
+-- the motion of a signed number, as an event gives it
+abbrev pub of-signed : ℤ → Motion
+of-signed (pos n) = record { plus = n; minus = 0 }
+of-signed (negsuc n) = record { plus = 0; minus = suc n }
+
+-- "motion is added to the held motion"
+abbrev pub sum : Motion → Motion → Motion
+sum a b = record { plus = (a .plus + b .plus) - (a .minus + b .minus); minus = (a .minus + b .minus) - (a .plus + b .plus) }
+
+-- "Origin bottom negates dy"
+abbrev pub opposite : Motion → Motion
+opposite m = record { plus = m .minus; minus = m .plus }
+
+-- "reaches its threshold (and isn't 0)": thresholds, scales and deltas come as they act, 1 at least, and 0 does not reach 1
+unfoldable pub reaches : Motion → ℕ → Bool
+reaches m threshold = leb threshold (size m)
+
+-- "divided by the scale toward zero"; also the whole deltas of keycode mode
+unfoldable pub quotient : Motion → ℕ → Motion
+quotient m scale = record { plus = m .plus / scale; minus = m .minus / scale }
+
+-- "the remainder stays"
+unfoldable pub remainder : Motion → ℕ → Motion
+remainder m scale = record { plus = m .plus % scale; minus = m .minus % scale }
+
+-- "each takes as much as -128 to 127 allows of what is left": the part of one packet
+unfoldable pub part : Motion → Motion
+part m = record { plus = min (m .plus) 127; minus = min (m .minus) 128 }
+
+-- what is left after that part
+unfoldable pub left-over : Motion → Motion
+left-over m = record { plus = m .plus - 127; minus = m .minus - 128 }
+
+-- "X, Y in two's complement": the byte of a part
+unfoldable pub byte : Motion → ℕ
+byte m = (m .plus + (256 - m .minus)) % 256
+
+-- "The fewest packets are sent": how many one axis needs
+unfoldable pub packets-needed : Motion → ℕ
+packets-needed m = max ((m .plus + 126) / 127) ((m .minus + 127) / 128)
+
+-- a coordinate moved by q: "Coordinates never pass 0 or the maximum"
+unfoldable pub moved : ℕ → ℕ → Motion → ℕ
+moved maximum c q = min maximum ((c + q .plus) - q .minus)

@@ -1,0 +1,68 @@
+-- The mouse's buttons (document 01, "The mouse").
+use Prim.Native.Nat.{ℕ, _/_, _%_}
+use mathlib.Core.Bool.{Bool, true, false, cond, not}
+use mathlib.Core.List.{List, [], _∷_}
+use lib.Dec.{eqb}
+use Rattle.output.specs.ScanCodes.{code-sent, key-left, key-right}
+use Rattle.output.specs.Packets.{Packet, scan}
+use Rattle.protocol.specs.declared.MouseMode.{MouseMode}
+use Rattle.protocol.specs.declared.MouseMode.the-variants.{Relative, Absolute, Keycode}
+use Rattle.protocol.specs.declared.Settings.{Settings}
+use Rattle.mouse.specs.declared.Latches.{Latches}
+use Rattle.mouse.specs.declared.Mouse.{Mouse}
+use Rattle.mouse.specs.declared.Side.{Side}
+use Rattle.mouse.specs.declared.Side.the-variants.{Left, Right}
+use Rattle.mouse.specs.Mouse.{live, with-latches}
+use Rattle.mouse.specs.Reports.{MouseDue, quiet, send-all, report}
+
+abbrev pub level : Side → Mouse → Bool
+level Left m = m .left
+level Right m = m .right
+
+abbrev pub with-level : Side → Bool → Mouse → Mouse
+with-level Left down m = record { place = m .place; held = m .held; left = down; right = m .right; latches = m .latches }
+with-level Right down m = record { place = m .place; held = m .held; left = m .left; right = down; latches = m .latches }
+
+-- "keys 0x74 left, 0x75 right"
+abbrev pub key-of : Side → ℕ
+key-of Left = key-left
+key-of Right = key-right
+
+-- the latch of a button that goes down (true) or up
+abbrev pub latched : Side → Bool → Latches → Latches
+latched Left true l = record { rightdown = l .rightdown; rightup = l .rightup; leftdown = true; leftup = l .leftup }
+latched Left false l = record { rightdown = l .rightdown; rightup = l .rightup; leftdown = l .leftdown; leftup = true }
+latched Right true l = record { rightdown = true; rightup = l .rightup; leftdown = l .leftdown; leftup = l .leftup }
+latched Right false l = record { rightdown = l .rightdown; rightup = true; leftdown = l .leftdown; leftup = l .leftup }
+
+-- "action 4": the buttons are keys
+abbrev pub as-keys : ℕ
+as-keys = 4
+
+-- "with action bit 0 a press, with bit 1 a release, sends the same report"
+abbrev pub reported : ℕ → Bool → Bool
+reported action down = eqb (cond down action (action / 2) % 2) 1
+
+-- a button as a key
+abbrev pub keyed-button : Side → Bool → Mouse → MouseDue
+keyed-button side down m = record { packets = scan (code-sent (key-of side) down) ∷ []; mouse = m }
+
+-- "In this mode a live button, with any action, sets its latch"
+abbrev pub with-latch : Side → Bool → Mouse → Mouse
+with-latch side down m = with-latches (latched side down (m .latches)) m
+
+-- A live button whose level has changed, in each mode. "A button with action 0 to 3 sends all held motion with the new levels, at least one packet";
+-- in absolute mode it may report "without clearing"; "Buttons with action 4 or in this mode are keys".
+unfoldable pub live-button : MouseMode → ℕ → Side → Bool → Mouse → MouseDue
+live-button Relative action side down m = cond (eqb action as-keys) (keyed-button side down m) (send-all 1 m)
+live-button (Absolute maximum) action side down m =
+    let l = with-latch side down m in
+    cond (eqb action as-keys) (keyed-button side down l)
+    (cond (reported action down) (record { packets = report l ∷ []; mouse = l }) (quiet l))
+live-button (Keycode delta) action side down m = keyed-button side down m
+
+-- A button event: "An unchanged level does nothing"; not live, "buttons only change their level".
+unfoldable pub presses : Settings → Side → Bool → Mouse → MouseDue
+presses σ side down m =
+    cond (cond down (level side m) (not (level side m))) (quiet m)
+    (cond (live σ) (live-button (σ .mouse) (σ .action) side down (with-level side down m)) (quiet (with-level side down m)))

@@ -1,0 +1,36 @@
+-- What executed commands do to the mouse's part of the state, and what they send of it (document 01, "Reading commands" and "The mouse").
+use Prim.Native.Nat.{ℕ, min}
+use mathlib.Core.List.{List, [], _∷_}
+use Rattle.motion.specs.Motion.{at-rest}
+use Rattle.protocol.specs.declared.Point.{Point}
+use Rattle.protocol.specs.declared.MouseMode.{MouseMode}
+use Rattle.protocol.specs.Codes.{MouseCommand, button-action, relative, absolute, keycode, threshold, scale, report-position, load-position, origin-bottom, origin-top}
+use Rattle.protocol.specs.Commands.{point-at}
+use Rattle.mouse.specs.declared.Mouse.{Mouse}
+use Rattle.mouse.specs.Mouse.{origin, maximum-of, no-latches, with-place, with-held, with-latches}
+use Rattle.mouse.specs.Reports.{MouseDue, quiet, report}
+
+-- "0x08, 0x09, 0x0A ... clear held motion, zero the coordinates"
+abbrev pub started-anew : Mouse → Mouse
+started-anew m = with-place origin (with-held at-rest m)
+
+-- "0x0E is held to the maximum." Its first byte is a filler.
+abbrev pub loaded : Point → List ℕ → Mouse → Mouse
+loaded maximum ps m = with-place (record { x = min (maximum .x) (point-at 1 ps .x); y = min (maximum .y) (point-at 1 ps .y) }) m
+
+-- "0x0D sends 0xF7, ... and clears the latches"
+unfoldable pub commanded : MouseCommand → List ℕ → MouseMode → Mouse → MouseDue
+commanded button-action ps mode m = quiet m
+commanded relative ps mode m = quiet (started-anew m)
+commanded absolute ps mode m = quiet (started-anew m)
+commanded keycode ps mode m = quiet (started-anew m)
+commanded threshold ps mode m = quiet m
+commanded scale ps mode m = quiet m
+commanded report-position ps mode m = record { packets = report m ∷ []; mouse = with-latches no-latches m }
+commanded load-position ps mode m = quiet (loaded (maximum-of mode) ps m)
+commanded origin-bottom ps mode m = quiet m
+commanded origin-top ps mode m = quiet m
+
+-- "0x12 turns the mouse off and clears held motion."
+abbrev pub switched-off : Mouse → Mouse
+switched-off m = with-held at-rest m

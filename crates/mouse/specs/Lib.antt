@@ -1,0 +1,5 @@
+pub mod Mouse
+pub mod Reports
+pub mod Moves
+pub mod Buttons
+pub mod Commands

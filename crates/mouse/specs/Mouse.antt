@@ -1,0 +1,69 @@
+-- The mouse's part of the state: its ranges, power-up, and when the mouse is live (document 01, "What the state holds" and "The mouse").
+use Prim.Native.Nat.{ℕ, _≤_}
+use mathlib.Core.Bool.{Bool, true, false, cond, not, _&&_}
+use Rattle.motion.specs.declared.Motions.{Motions}
+use Rattle.motion.specs.Motion.{OneSided, size, at-rest}
+use Rattle.protocol.specs.declared.Point.{Point}
+use Rattle.protocol.specs.declared.MouseMode.{MouseMode}
+use Rattle.protocol.specs.declared.MouseMode.the-variants.{Relative, Absolute, Keycode}
+use Rattle.protocol.specs.declared.Settings.{Settings}
+use Rattle.protocol.specs.Settings.{monitors, is-absolute, is-mouse}
+use Rattle.mouse.specs.declared.Latches.{Latches}
+use Rattle.mouse.specs.declared.Mouse.{Mouse}
+
+-- "Live: on, port 0 mouse, not monitoring."
+unfoldable pub live : Settings → Bool
+live σ = σ .mouseon && is-mouse (σ .port0) && not (monitors (σ .stick))
+
+-- "mouse live in relative or keycode mode": there, motion is held without bound of a threshold while paused
+unfoldable pub gathers : Settings → Bool
+gathers σ = live σ && not (is-absolute (σ .mouse))
+
+-- "held motion on an axis would leave -2,032 to 2,032"
+abbrev pub held-limit : ℕ
+held-limit = 2032
+
+-- "held motion is -254 to 254"
+abbrev pub held-below : ℕ
+held-below = 254
+
+-- "and beyond that, to 2,032 either way, only while paused with the mouse live in relative or keycode mode"
+unfoldable pub held-most : Bool → Settings → ℕ
+held-most paused σ = cond (paused && gathers σ) held-limit held-below
+
+abbrev pub origin : Point
+origin = record { x = 0; y = 0 }
+
+-- "coordinates are 0 outside absolute mode", and never pass the maximum in it: the most that they are
+abbrev pub maximum-of : MouseMode → Point
+maximum-of Relative = origin
+maximum-of (Absolute maximum) = maximum
+maximum-of (Keycode delta) = origin
+
+pub record IsMouse (paused : Bool) (σ : Settings) (m : Mouse) : Type 0 where
+  pub x : m .place .x ≤ maximum-of (σ .mouse) .x
+  pub y : m .place .y ≤ maximum-of (σ .mouse) .y
+  pub held-x : size (m .held .x) ≤ held-most paused σ
+  pub held-y : size (m .held .y) ≤ held-most paused σ
+
+-- a representation fact: one side of each held motion is 0
+pub record OneMouse (m : Mouse) : Type 0 where
+  pub x : OneSided (m .held .x)
+  pub y : OneSided (m .held .y)
+
+abbrev pub no-latches : Latches
+no-latches = record { rightdown = false; rightup = false; leftdown = false; leftup = false }
+
+-- "all else zero"
+abbrev pub at-power-up : Mouse
+at-power-up = record { place = origin; held = at-rest; left = false; right = false; latches = no-latches }
+
+-- the mouse with one part replaced
+abbrev pub with-place : Point → Mouse → Mouse
+with-place p m = record { place = p; held = m .held; left = m .left; right = m .right; latches = m .latches }
+
+abbrev pub with-held : Motions → Mouse → Mouse
+with-held h m = record { place = m .place; held = h; left = m .left; right = m .right; latches = m .latches }
+
+abbrev pub with-latches : Latches → Mouse → Mouse
+with-latches l m = record { place = m .place; held = m .held; left = m .left; right = m .right; latches = l }

@@ -1,0 +1,55 @@
+// The mouse: coordinates of absolute mode, motion held back, button levels, and the latches that 0x0D reports.
+ghost use mathlib.Core.Path.{_≡_};
+ghost use Rattle.mouse.specs.Mouse.{at-power-up, held-limit};
+use motion::Motions;
+use protocol::Point;
+
+// Which buttons went down or up since the last 0x0D.
+pub struct Latches {
+    pub rightdown: bool,
+    pub rightup: bool,
+    pub leftdown: bool,
+    pub leftup: bool,
+}
+
+pub struct Mouse {
+    pub place: Point,
+    pub held: Motions,
+    pub left: bool,
+    pub right: bool,
+    pub latches: Latches,
+}
+
+// The two buttons of the mouse.
+pub enum Side {
+    Left,
+    Right,
+}
+
+impl Mouse {
+    // The most motion that is held along an axis, either way, while paused.
+    pub const HELD_LIMIT: u16 = 2032;
+
+    pub fn held_limit() -> u16
+        ensures { λ r. ⌜ r ≡ held-limit ⌝ }
+    {
+        Mouse::HELD_LIMIT
+    }
+
+    pub fn power_up() -> Self
+        ensures { λ r. ⌜ r ≡ at-power-up ⌝ }
+    {
+        Mouse {
+            place: Point { x: 0, y: 0 },
+            held: Motions::at_rest(),
+            left: false,
+            right: false,
+            latches: Latches {
+                rightdown: false,
+                rightup: false,
+                leftdown: false,
+                leftup: false,
+            },
+        }
+    }
+}

@@ -1,0 +1,3 @@
+pub mod ScanCodes
+pub mod Packets
+pub mod Writing

@@ -1,0 +1,52 @@
+-- The status inquiries and their replies (document 01, "Inquiries and putting back").
+use Prim.Native.Nat.{ℕ, _/_, _%_}
+use mathlib.Core.Bool.{cond}
+use mathlib.Core.List.{List}
+use lib.ListN.{drop}
+use Rattle.output.specs.Packets.{Packet, status, bytes-of}
+use Rattle.protocol.specs.declared.MouseMode.{MouseMode}
+use Rattle.protocol.specs.declared.MouseMode.the-variants.{Relative, Absolute, Keycode}
+use Rattle.protocol.specs.declared.StickMode.{StickMode}
+use Rattle.protocol.specs.declared.StickMode.the-variants.{Event, Interrogation, Monitoring, Fire, Cursor}
+use Rattle.protocol.specs.declared.Settings.{Settings}
+use Rattle.protocol.specs.Codes.{Inquiry, ask-action, ask-mouse, ask-threshold, ask-scale, ask-origin, ask-mouse-off, ask-stick, ask-sticks-off}
+
+-- the code of each of the eight
+abbrev pub code-of : Inquiry → ℕ
+code-of ask-action = 0x87
+code-of ask-mouse = 0x88
+code-of ask-threshold = 0x8B
+code-of ask-scale = 0x8C
+code-of ask-origin = 0x8F
+code-of ask-mouse-off = 0x92
+code-of ask-stick = 0x94
+code-of ask-sticks-off = 0x9A
+
+-- "the order of the 0x09 command decides": X and then Y, high byte first
+abbrev pub mouse-reply : MouseMode → Packet
+mouse-reply Relative = status 0x08 0 0 0 0 0 0
+mouse-reply (Absolute m) = status 0x09 (m .x / 256) (m .x % 256) (m .y / 256) (m .y % 256) 0 0
+mouse-reply (Keycode d) = status 0x0A (d .x) (d .y) 0 0 0 0
+
+-- the joystick mode; in the monitoring modes inquiries are ignored, so that these two cases are never sent
+abbrev pub stick-reply : StickMode → Packet
+stick-reply Event = status 0x14 0 0 0 0 0 0
+stick-reply Interrogation = status 0x15 0 0 0 0 0 0
+stick-reply (Monitoring rate) = status 0x17 rate 0 0 0 0 0
+stick-reply Fire = status 0x18 0 0 0 0 0 0
+stick-reply (Cursor x y) = status 0x19 (x .breakpoint) (y .breakpoint) (x .before) (y .before) (x .after) (y .after)
+
+-- "A reply is 0xF6, then the command that would set it, filled with zeros to 8 bytes."
+unfoldable pub reply : Inquiry → Settings → Packet
+reply ask-action σ = status 0x07 (σ .action) 0 0 0 0 0
+reply ask-mouse σ = mouse-reply (σ .mouse)
+reply ask-threshold σ = status 0x0B (σ .threshold .x) (σ .threshold .y) 0 0 0 0
+reply ask-scale σ = status 0x0C (σ .scale .x) (σ .scale .y) 0 0 0 0
+reply ask-origin σ = status (cond (σ .bottom) 0x0F 0x10) 0 0 0 0 0 0
+reply ask-mouse-off σ = status (cond (σ .mouseon) 0x00 0x12) 0 0 0 0 0 0
+reply ask-stick σ = stick-reply (σ .stick)
+reply ask-sticks-off σ = status (cond (σ .stickson) 0x00 0x1A) 0 0 0 0 0 0
+
+-- "the seven after 0xF6 are copied and kept, zeros too"
+abbrev pub kept-bytes : Inquiry → Settings → List ℕ
+kept-bytes q σ = drop 1 (bytes-of (reply q σ))

@@ -1,0 +1,97 @@
+// Commands and settings: what the host can set, and a command of which not all bytes have come.
+ghost use mathlib.Core.Path.{_≡_};
+ghost use Rattle.protocol.specs.Reading.{no-command};
+ghost use Rattle.protocol.specs.Settings.{power-up};
+
+// A byte for each axis of the mouse: thresholds, scales, deltas.
+pub struct Axes {
+    pub x: u8,
+    pub y: u8,
+}
+
+// A place in absolute mode: the coordinates, or their maximum.
+pub struct Point {
+    pub x: u16,
+    pub y: u16,
+}
+
+pub enum MouseMode {
+    Relative,
+    Absolute { maximum: Point },
+    Keycode { delta: Axes },
+}
+
+// How an arrow key repeats along an axis, in tenths of a second: every `before` (the protocol's T) up to the
+// `breakpoint` (R), and every `after` (V) from then on.
+pub struct Repeat {
+    pub breakpoint: u8,
+    pub before: u8,
+    pub after: u8,
+}
+
+// `Cursor` is the joystick keycode mode: the stick gives arrow keys.
+pub enum StickMode {
+    Event,
+    Interrogation,
+    Monitoring { rate: u8 },
+    Fire,
+    Cursor { x: Repeat, y: Repeat },
+}
+
+// What port 0 is taken for.
+pub enum Role {
+    ForMouse,
+    ForJoystick,
+}
+
+pub struct Settings {
+    pub mouse: MouseMode,
+    pub action: u8,
+    pub threshold: Axes,
+    pub scale: Axes,
+    pub bottom: bool,
+    pub mouseon: bool,
+    pub stick: StickMode,
+    pub stickson: bool,
+    pub port0: Role,
+}
+
+// A half-received command: its code, how many parameter bytes have come, those bytes, and how many data bytes of a
+// memory load (0x20) are still to come. Code 0: none is half received.
+pub struct Command {
+    pub code: u8,
+    pub come: u8,
+    pub params: [u8; 6],
+    pub pending: u8,
+}
+
+impl Settings {
+    pub fn power_up() -> Self
+        ensures { λ r. ⌜ r ≡ power-up ⌝ }
+    {
+        Settings {
+            mouse: MouseMode::Relative,
+            action: 0,
+            threshold: Axes { x: 1, y: 1 },
+            scale: Axes { x: 1, y: 1 },
+            bottom: false,
+            mouseon: true,
+            stick: StickMode::Event,
+            stickson: true,
+            port0: Role::ForMouse,
+        }
+    }
+}
+
+impl Command {
+    pub fn none() -> Self
+        ensures { λ r. ⌜ r ≡ no-command ⌝ }
+    {
+        Command {
+            code: 0,
+            come: 0,
+            params: [0; 6],
+            pending: 0,
+        }
+    }
+}

@@ -1,0 +1,4 @@
+pub mod Sticks
+pub mod Events
+pub mod Ticks
+pub mod Commands

@@ -1,0 +1,48 @@
+// The joysticks: where both stand, the repeat counts of keycode mode, and what the two monitoring modes have gathered.
+ghost use mathlib.Core.Path.{_≡_};
+ghost use Rattle.sticks.specs.Sticks.{at-power-up};
+
+// Bits 0 to 3 of the position are up, down, left, right.
+pub struct Stick {
+    pub position: u8,
+    pub trigger: bool,
+}
+
+// How long an axis has had its direction, and how long it has been since its last arrow key, in ticks.
+pub struct Count {
+    pub age: u16,
+    pub wait: u16,
+}
+
+// `ticks` since the last monitoring report; `samples` of the fire button so far, as the low bits of `bits`, the last in bit 0.
+pub struct Sticks {
+    pub zero: Stick,
+    pub one: Stick,
+    pub x: Count,
+    pub y: Count,
+    pub ticks: u8,
+    pub samples: u8,
+    pub bits: u8,
+}
+
+impl Sticks {
+    pub fn power_up() -> Self
+        ensures { λ r. ⌜ r ≡ at-power-up ⌝ }
+    {
+        Sticks {
+            zero: Stick {
+                position: 0,
+                trigger: false,
+            },
+            one: Stick {
+                position: 0,
+                trigger: false,
+            },
+            x: Count { age: 0, wait: 0 },
+            y: Count { age: 0, wait: 0 },
+            ticks: 0,
+            samples: 0,
+            bits: 0,
+        }
+    }
+}
