@@ -1,6 +1,6 @@
 -- A host byte: reading, executing, resuming (document 01, "Reading commands").
 use Prim.Native.Nat.{ℕ}
-use mathlib.Core.Bool.{Bool, true, false, cond}
+use mathlib.Core.Bool.{Bool, true, false, cond, _&&_}
 use mathlib.Core.List.{List, [], _∷_, _++_}
 use Rattle.output.specs.Packets.{Packet, version, bytes}
 use Rattle.clock.specs.declared.Clock.{Clock}
@@ -152,3 +152,18 @@ unfoldable pub host-due : Fed → State → Due
 host-due (half c) s = silent (reading (half c) s)
 host-due (whole code ps) s =
     cond (executed (meaning-of code) ps (s .settings)) (executes (meaning-of code) ps s) (silent (reading (whole code ps) s))
+
+-- "0x80 then 0x01 resets": the byte that came completes a reset that is executed
+abbrev pub is-reset : Meaning → Bool
+is-reset nothing = false
+is-reset memory = false
+is-reset pause = false
+is-reset reset = true
+is-reset (of-mouse c) = false
+is-reset (of-stick c) = false
+is-reset (of-other c) = false
+is-reset (inquire q) = false
+
+unfoldable pub resets : Fed → State → Bool
+resets (half c) s = false
+resets (whole code ps) s = executed (meaning-of code) ps (s .settings) && is-reset (meaning-of code)

@@ -1,11 +1,13 @@
 -- Sequences of inputs: "Each input comes with a buffer of any length and gets the state that the one before it, taken or refused, gave back".
 use Prim.Native.Nat.{ℕ}
-use mathlib.Core.Bool.{cond}
+use mathlib.Core.Bool.{Bool, false, cond}
 use mathlib.Core.List.{List, [], _∷_, _++_}
 use lib.Dec.{eqb}
 use Rattle.controller.specs.declared.State.{State}
 use Rattle.controller.specs.declared.Input.{Input}
 use Rattle.controller.specs.declared.Input.the-variants.{Byte, Key, Button, Move, Joystick, Sample, Tick}
+use Rattle.protocol.specs.Reading.{feed}
+use Rattle.controller.specs.Host.{resets}
 use Rattle.controller.specs.Step.{Out, step, IsInput}
 
 -- an input, and the length of the buffer lent with it
@@ -55,3 +57,13 @@ all-written (d ∷ ds) = d .out .written ++ all-written ds
 abbrev pub AreInputs : List Turn → Type 0
 AreInputs [] = Unit {0}
 AreInputs (t ∷ ts) = IsInput (t .input) × AreInputs ts
+
+-- the step executes a reset, if it is taken
+abbrev pub resets-by : State → Input → Bool
+resets-by s (Byte b) = resets (feed (s .command) b) s
+resets-by s (Key code down) = false
+resets-by s (Button side down) = false
+resets-by s (Move dx dy) = false
+resets-by s (Joystick stick position trigger) = false
+resets-by s (Sample b) = false
+resets-by s Tick = false

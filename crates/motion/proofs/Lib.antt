@@ -1,1 +1,4 @@
+pub mod Difference
+pub mod Integers
 pub mod Bounds
+pub mod Parts

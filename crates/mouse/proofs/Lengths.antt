@@ -10,6 +10,7 @@ use lib.ListN.{length, length-append}
 use lib.IntN.{ℤ, natAbs}
 use Rattle.output.specs.ScanCodes.{arrow-right, arrow-left, arrow-up, arrow-down}
 use Rattle.output.specs.Packets.{Packet, bytes, pairs}
+use Rattle.output.proofs.Cases.{both-ways}
 use Rattle.output.proofs.Packets.{bytes-append, pairs-length}
 use Rattle.motion.specs.declared.Motions.{Motions}
 use Rattle.motion.specs.Motion.{size, reaches, quotient, part, left-over, packets-needed}
@@ -28,7 +29,7 @@ use Rattle.mouse.specs.Reports.{MouseDue, quiet, buttons, split, packets
 use Rattle.mouse.specs.Moves.{gathered, either-reaches, quotients, arrows, keyed, motion-due, released, applied, moves}
 use Rattle.mouse.specs.Buttons.{level, with-level, live-button, presses, as-keys, reported, keyed-button, with-latch}
 use Rattle.mouse.specs.Commands.{commanded}
-use Rattle.mouse.proofs.States.{GoodMouse, both-ways, gathered-size, held-small, held-unpaused}
+use Rattle.mouse.proofs.States.{GoodMouse, gathered-size, held-small, held-unpaused}
 
 -- n packets of motion are 3·n bytes
 pub split-length : (n levels : ℕ) (d : Motions) → length (bytes (split n levels d)) ≡ 3 * n
@@ -78,7 +79,7 @@ keyed-length delta n m hx hy =
 due-length : (mode : MouseMode) (t : Axes) (n : ℕ) (m : Mouse) → size (m .held .x) ≤ n → size (m .held .y) ≤ n → length (bytes (motion-due mode t m .packets)) ≤ 4 * n
 unfolding motion-due
 due-length Relative t n m hx hy =
-    both-ways (λ d. length (bytes (d .packets)) ≤ 4 * n) (either-reaches t (m .held))
+    both-ways (λ (d : MouseDue). length (bytes (d .packets)) ≤ 4 * n) (either-reaches t (m .held))
     (λ _. omega (arith, sent-length 0 n m hx hy)) (λ _. omega arith)
 due-length (Absolute p) t n m hx hy = omega arith
 due-length (Keycode delta) t n m hx hy = keyed-length delta n m hx hy
@@ -88,7 +89,7 @@ pub released-length : (σ : Settings) (m : Mouse) → GoodMouse true σ m → le
 unfolding released
 released-length σ m g =
     let h = held-small true σ m g in
-    both-ways (λ d. length (bytes (d .packets)) ≤ 4 * held-limit) (live σ)
+    both-ways (λ (d : MouseDue). length (bytes (d .packets)) ≤ 4 * held-limit) (live σ)
     (λ _. due-length (σ .mouse) (σ .threshold) held-limit m (h .0) (h .1)) (λ _. omega arith)
 
 applied-paused : (mode : MouseMode) (σ : Settings) (m : Mouse) → applied mode true σ m .packets ≡ []
@@ -101,7 +102,7 @@ applied-paused (Keycode delta) σ m = refl
 pub moves-paused : (σ : Settings) (dx dy : ℤ) (m : Mouse) → moves true σ dx dy m .packets ≡ []
 unfolding moves
 moves-paused σ dx dy m =
-    both-ways (λ d. d .packets ≡ []) (live σ) (λ _. applied-paused (σ .mouse) σ (with-held (gathered σ dx dy (m .held)) m)) (λ _. refl)
+    both-ways (λ (d : MouseDue). d .packets ≡ []) (live σ) (λ _. applied-paused (σ .mouse) σ (with-held (gathered σ dx dy (m .held)) m)) (λ _. refl)
 
 applied-length : (mode : MouseMode) (σ : Settings) (n : ℕ) (m : Mouse) → size (m .held .x) ≤ n → size (m .held .y) ≤ n → length (bytes (applied mode false σ m .packets)) ≤ 4 * n
 unfolding applied
@@ -114,7 +115,7 @@ pub moves-length : (σ : Settings) (dx dy : ℤ) (m : Mouse) → natAbs dx ≤ 6
     length (bytes (moves false σ dx dy m .packets)) ≤ 4 * held-limit
 unfolding moves
 moves-length σ dx dy m hx hy g =
-    both-ways (λ d. length (bytes (d .packets)) ≤ 4 * held-limit) (live σ)
+    both-ways (λ (d : MouseDue). length (bytes (d .packets)) ≤ 4 * held-limit) (live σ)
     (λ _. let h = held-unpaused σ m g in
     let k = gathered-size σ dx dy (m .held) in
     applied-length (σ .mouse) σ held-limit (with-held (gathered σ dx dy (m .held)) m) (omega (arith, h, k)) (omega (arith, h, k)))
@@ -124,12 +125,12 @@ button-length : (mode : MouseMode) (action : ℕ) (side : Side) (down : Bool) (m
     length (bytes (live-button mode action side down m .packets)) ≤ 4 * held-limit
 unfolding live-button report
 button-length Relative action side down m hx hy =
-    both-ways (λ d. length (bytes (d .packets)) ≤ 4 * held-limit) (eqb action as-keys)
+    both-ways (λ (d : MouseDue). length (bytes (d .packets)) ≤ 4 * held-limit) (eqb action as-keys)
     (λ _. omega arith) (λ _. omega (arith, sent-length 1 held-limit m hx hy))
 button-length (Absolute p) action side down m hx hy =
-    both-ways (λ d. length (bytes (d .packets)) ≤ 4 * held-limit) (eqb action as-keys)
+    both-ways (λ (d : MouseDue). length (bytes (d .packets)) ≤ 4 * held-limit) (eqb action as-keys)
     (λ _. omega arith)
-    (λ _. both-ways (λ d. length (bytes (d .packets)) ≤ 4 * held-limit) (reported action down) (λ _. omega arith) (λ _. omega arith))
+    (λ _. both-ways (λ (d : MouseDue). length (bytes (d .packets)) ≤ 4 * held-limit) (reported action down) (λ _. omega arith) (λ _. omega arith))
 button-length (Keycode delta) action side down m hx hy = omega arith
 
 level-held : (side : Side) (down : Bool) (m : Mouse) → with-level side down m .held ≡ m .held
@@ -142,9 +143,9 @@ pub presses-length : (paused : Bool) (σ : Settings) (side : Side) (down : Bool)
 unfolding presses
 presses-length paused σ side down m g =
     let h = held-small paused σ m g in
-    both-ways (λ d. length (bytes (d .packets)) ≤ 4 * held-limit) (cond down (level side m) (not (level side m)))
+    both-ways (λ (d : MouseDue). length (bytes (d .packets)) ≤ 4 * held-limit) (cond down (level side m) (not (level side m)))
     (λ _. omega arith)
-    (λ _. both-ways (λ d. length (bytes (d .packets)) ≤ 4 * held-limit) (live σ)
+    (λ _. both-ways (λ (d : MouseDue). length (bytes (d .packets)) ≤ 4 * held-limit) (live σ)
     (λ _. button-length (σ .mouse) (σ .action) side down (with-level side down m) (rw (level-held side down m) (h .0)) (rw (level-held side down m) (h .1)))
     (λ _. omega arith))
 

@@ -8,6 +8,7 @@ use mathlib.Core.List.{List}
 use lib.Dec.{eqb, ltb}
 use lib.IntN.{ℤ, natAbs}
 use borrow.Author.Tests.{ltb-false}
+use Rattle.output.proofs.Cases.{both-ways, and-true, or-false}
 use Rattle.motion.specs.declared.Motion.{Motion}
 use Rattle.motion.specs.declared.Motions.{Motions}
 use Rattle.motion.specs.Motion.{OneSided, size, of-signed, sum, opposite, reaches, quotient, remainder, moved}
@@ -57,15 +58,6 @@ within g = record {
   one-x = g .spelling .x;
   one-y = g .spelling .y;
 }
-
--- a test, by its two cases
-pub both-ways : (P : MouseDue → Type 0) (t : Bool) {a b : MouseDue} → (t ≡ true → P a) → (t ≡ false → P b) → P (cond t a b)
-both-ways P true f g = f refl
-both-ways P false f g = g refl
-
-neither : (a b : Bool) → (a || b) ≡ false → (a ≡ false) × (b ≡ false)
-neither true b h = absurd (true≢false h)
-neither false b h = (refl, h)
 
 -- not paused, the least bound holds, and it is the least
 unpaused-most : (σ : Settings) → held-most false σ ≡ held-below
@@ -146,11 +138,11 @@ steered-within scales p m h w = record {
 reach-within : (t : Axes) {most : ℕ} {p : Point} (m : Mouse) → IsAxes t → Within most p m → Within held-below p (motion-due Relative t m .mouse)
 unfolding motion-due either-reaches
 reach-within t {p = p} m h w =
-    both-ways (λ d. Within held-below p (d .mouse))
+    both-ways (λ (d : MouseDue). Within held-below p (d .mouse))
     (reaches (m .held .x) (acts-as (t .x)) || reaches (m .held .y) (acts-as (t .y)))
     (λ _. sent-within 0 w)
     (λ e.
-    let (ex, ey) = neither (reaches (m .held .x) (acts-as (t .x))) (reaches (m .held .y) (acts-as (t .y))) e in
+    let (ex, ey) = or-false (reaches (m .held .x) (acts-as (t .x))) (reaches (m .held .y) (acts-as (t .y))) e in
     record {
       x = w .x;
       y = w .y;
@@ -175,7 +167,7 @@ released-within (Keycode delta) t m ht hm w = keyed-within delta m hm w
 pub released-is : (σ : Settings) (m : Mouse) → IsSettings σ → GoodMouse true σ m → GoodMouse false σ (released σ m .mouse)
 unfolding released
 released-is σ m h g =
-    both-ways (λ d. GoodMouse false σ (d .mouse)) (live σ)
+    both-ways (λ (d : MouseDue). GoodMouse false σ (d .mouse)) (live σ)
     (λ e. good (rw (unpaused-most σ) (released-within (σ .mouse) (σ .threshold) m (h .threshold) (h .mouse) (rw (live-most true σ e) at (within g)))))
     (λ e. good (rw (unpaused-most σ) (rw (dead-most true σ e) at (within g))))
 
@@ -234,19 +226,15 @@ roomy : (σ : Settings) (dx dy : ℤ) (m : Mouse) → live σ ≡ true → overf
     (size (gathered σ dx dy (m .held) .x) ≤ held-limit) × (size (gathered σ dx dy (m .held) .y) ≤ held-limit)
 unfolding overflows gathers
 roomy σ dx dy m l o a =
-    let (ox, oy) = neither _ _ (rw (l, a) at o) in
+    let (ox, oy) = or-false _ _ (rw (l, a) at o) in
     (ltb-false held-limit _ ox, ltb-false held-limit _ oy)
-
-and-true : (a b : Bool) → (a && b) ≡ true → (a ≡ true) × (b ≡ true)
-and-true true b h = (refl, h)
-and-true false b h = absurd (true≢false (sym h))
 
 -- A motion event that is not refused keeps the mouse good.
 pub moves-is : (paused : Bool) (σ : Settings) (dx dy : ℤ) (m : Mouse) → IsSettings σ → (paused && overflows σ dx dy m) ≡ false →
     GoodMouse paused σ m → GoodMouse paused σ (moves paused σ dx dy m .mouse)
 unfolding moves
 moves-is paused σ dx dy m h o g =
-    both-ways (λ d. GoodMouse paused σ (d .mouse)) (live σ)
+    both-ways (λ (d : MouseDue). GoodMouse paused σ (d .mouse)) (live σ)
     (λ l. good (rw (live-most paused σ l)
     (applied-within (σ .mouse) paused σ (with-held (gathered σ dx dy (m .held)) m) h (h .mouse)
     (λ t.
@@ -267,20 +255,20 @@ button-within : (mode : MouseMode) (action : ℕ) (side : Side) (down : Bool) {m
     Within most p (live-button mode action side down m .mouse)
 unfolding live-button
 button-within Relative action side down {most} {p} m h w =
-    both-ways (λ d. Within most p (d .mouse)) (eqb action as-keys) (λ _. w) (λ _. widen h (sent-within 1 w))
+    both-ways (λ (d : MouseDue). Within most p (d .mouse)) (eqb action as-keys) (λ _. w) (λ _. widen h (sent-within 1 w))
 button-within (Absolute q) action side down {most} {p} m h w =
-    both-ways (λ d. Within most p (d .mouse)) (eqb action as-keys)
+    both-ways (λ (d : MouseDue). Within most p (d .mouse)) (eqb action as-keys)
     (λ _. latch-within side down w)
-    (λ _. both-ways (λ d. Within most p (d .mouse)) (reported action down) (λ _. latch-within side down w) (λ _. latch-within side down w))
+    (λ _. both-ways (λ (d : MouseDue). Within most p (d .mouse)) (reported action down) (λ _. latch-within side down w) (λ _. latch-within side down w))
 button-within (Keycode delta) action side down m h w = w
 
 pub presses-is : (paused : Bool) (σ : Settings) (side : Side) (down : Bool) (m : Mouse) → GoodMouse paused σ m →
     GoodMouse paused σ (presses σ side down m .mouse)
 unfolding presses
 presses-is paused σ side down m g =
-    both-ways (λ d. GoodMouse paused σ (d .mouse)) (cond down (level side m) (not (level side m)))
+    both-ways (λ (d : MouseDue). GoodMouse paused σ (d .mouse)) (cond down (level side m) (not (level side m)))
     (λ _. g)
-    (λ _. both-ways (λ d. GoodMouse paused σ (d .mouse)) (live σ)
+    (λ _. both-ways (λ (d : MouseDue). GoodMouse paused σ (d .mouse)) (live σ)
     (λ _. good (button-within (σ .mouse) (σ .action) side down (with-level side down m) (least-most paused σ) (level-within side down (within g))))
     (λ _. good (level-within side down (within g))))
 

@@ -1,13 +1,15 @@
 -- The status inquiries and their replies (document 01, "Inquiries and putting back").
 use Prim.Native.Nat.{ℕ, _/_, _%_}
 use mathlib.Core.Bool.{cond}
-use mathlib.Core.List.{List}
+use mathlib.Core.List.{List, _++_}
 use lib.ListN.{drop}
 use Rattle.output.specs.Packets.{Packet, status, bytes-of}
 use Rattle.protocol.specs.declared.MouseMode.{MouseMode}
 use Rattle.protocol.specs.declared.MouseMode.the-variants.{Relative, Absolute, Keycode}
 use Rattle.protocol.specs.declared.StickMode.{StickMode}
 use Rattle.protocol.specs.declared.StickMode.the-variants.{Event, Interrogation, Monitoring, Fire, Cursor}
+use Rattle.protocol.specs.declared.Role.{Role}
+use Rattle.protocol.specs.declared.Role.the-variants.{ForMouse, ForJoystick}
 use Rattle.protocol.specs.declared.Settings.{Settings}
 use Rattle.protocol.specs.Codes.{Inquiry, ask-action, ask-mouse, ask-threshold, ask-scale, ask-origin, ask-mouse-off, ask-stick, ask-sticks-off}
 
@@ -50,3 +52,12 @@ reply ask-sticks-off σ = status (cond (σ .stickson) 0x00 0x1A) 0 0 0 0 0 0
 -- "the seven after 0xF6 are copied and kept, zeros too"
 abbrev pub kept-bytes : Inquiry → Settings → List ℕ
 kept-bytes q σ = drop 1 (bytes-of (reply q σ))
+
+-- "Put back: port 0 a mouse, sticks first and then mouse; port 0 a joystick, mouse first and then sticks; within each, the order above."
+abbrev pub in-order : Role → (Inquiry → List ℕ) → List ℕ
+in-order ForMouse kept =
+    kept ask-stick ++ (kept ask-sticks-off
+    ++ (kept ask-action ++ (kept ask-mouse ++ (kept ask-threshold ++ (kept ask-scale ++ (kept ask-origin ++ kept ask-mouse-off))))))
+in-order ForJoystick kept =
+    kept ask-action ++ (kept ask-mouse ++ (kept ask-threshold ++ (kept ask-scale ++ (kept ask-origin ++ (kept ask-mouse-off
+    ++ (kept ask-stick ++ kept ask-sticks-off))))))

@@ -1,0 +1,4 @@
+pub mod Delivery
+pub mod Refusals
+pub mod States
+pub mod Lengths

@@ -1,0 +1,3 @@
+pub mod States
+pub mod Demand1
+pub mod Demand2

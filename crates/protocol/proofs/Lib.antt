@@ -1,0 +1,5 @@
+pub mod Reading
+pub mod Ranges
+pub mod Core
+pub mod Segments
+pub mod PutBack

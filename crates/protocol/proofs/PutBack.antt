@@ -1,0 +1,202 @@
+-- Demand 3 over the settings and the half-received command alone: asking changes neither, and the kept bytes, sent in the
+-- order for the role of port 0, make the settings again.
+-- Assumes nothing.
+use Prim.Native.Nat.{ℕ, _≤_}
+use mathlib.Core.Path.{_≡_, refl, sym, ap, _∙_, subst}
+use mathlib.Core.Logic.{_⊎_, inl, inr}
+use mathlib.Core.Bool.{Bool, true, false, cond, not, true≢false}
+use mathlib.Core.List.{List, [], _∷_, _++_, List·Memᴰ, List·Memᴰ·head, List·Memᴰ·tail}
+use lib.Dec.{eqb}
+use lib.ListN.{length}
+use borrow.Author.Tests.{eqb-true}
+use Rattle.output.specs.Packets.{bytes-of}
+use Rattle.protocol.specs.declared.StickMode.{StickMode}
+use Rattle.protocol.specs.declared.StickMode.the-variants.{Event, Interrogation, Monitoring, Fire, Cursor}
+use Rattle.protocol.specs.declared.MouseMode.{MouseMode}
+use Rattle.protocol.specs.declared.MouseMode.the-variants.{Relative, Absolute, Keycode}
+use Rattle.protocol.specs.declared.Role.{Role}
+use Rattle.protocol.specs.declared.Role.the-variants.{ForMouse, ForJoystick}
+use Rattle.protocol.specs.declared.Settings.{Settings}
+use Rattle.protocol.specs.Codes.{Inquiry, ask-action, ask-mouse, ask-threshold, ask-scale, ask-origin, ask-mouse-off, ask-stick, ask-sticks-off, Entry, entry, Meaning, nothing, memory, pause, reset, of-mouse, of-stick, of-other, inquire, table, find, line, parameters-of, meaning-of}
+use Rattle.protocol.specs.Reading.{zeros, no-command, Between, whole, begin, feed, command-after}
+use Rattle.protocol.specs.Settings.{most-action, monitors}
+use Rattle.protocol.specs.Commands.{executed, leave-monitoring, with-action, with-threshold, with-scale, with-origin, with-mouse, without-mouse, with-stick, without-sticks, sets, settings-then, settings-after}
+use Rattle.protocol.specs.Replies.{code-of, mouse-reply, stick-reply, reply, kept-bytes, in-order}
+use Rattle.protocol.proofs.Reading.{every, find-passes}
+use Rattle.protocol.proofs.Core.{Core, eat, eats, eats-append}
+use Rattle.protocol.proofs.Segments.{at-rest, eat-between, restored, segment}
+
+-- outside the monitoring modes a command of the mouse leaves the joystick mode
+stays : (m : StickMode) → monitors m ≡ false → leave-monitoring m ≡ m
+stays Event h = refl
+stays Interrogation h = refl
+stays (Monitoring rate) h = absurd (true≢false h)
+stays Fire h = absurd (true≢false h)
+stays (Cursor x y) h = refl
+
+-- the settings τ with other values, equal to its own, for what goes by cases
+same : (τ : Settings) {mo so : Bool} {st : StickMode} {r : Role} → mo ≡ τ .mouseon → so ≡ τ .stickson → st ≡ τ .stick → r ≡ τ .port0 →
+    _≡_ {A = Settings} (record {
+      mouse = τ .mouse;
+      action = τ .action;
+      threshold = τ .threshold;
+      scale = τ .scale;
+      bottom = τ .bottom;
+      mouseon = mo;
+      stick = st;
+      stickson = so;
+      port0 = r;
+    }) τ
+same τ p q s r = λ i. record {
+  mouse = τ .mouse;
+  action = τ .action;
+  threshold = τ .threshold;
+  scale = τ .scale;
+  bottom = τ .bottom;
+  mouseon = p i;
+  stick = s i;
+  stickson = q i;
+  port0 = r i;
+}
+
+-- what the replies of the mouse put back, and those of the sticks
+abbrev mouse-part : Settings → Settings → Settings
+mouse-part τ σ =
+    restored ask-mouse-off τ (restored ask-origin τ (restored ask-scale τ (restored ask-threshold τ (restored ask-mouse τ (restored ask-action τ σ)))))
+
+abbrev sticks-part : Settings → Settings → Settings
+sticks-part τ σ = restored ask-sticks-off τ (restored ask-stick τ σ)
+
+module _ (τ σ : Settings) (range : τ .action ≤ most-action) where
+  sent-mouse : eats (at-rest σ) (in-order ForMouse (λ q. kept-bytes q τ)) ≡ at-rest (mouse-part τ (sticks-part τ σ))
+  sent-mouse = simp (eats-append, segment)
+
+  sent-joystick : eats (at-rest σ) (in-order ForJoystick (λ q. kept-bytes q τ)) ≡ at-rest (sticks-part τ (mouse-part τ σ))
+  sent-joystick = simp (eats-append, segment)
+
+-- in the order for its role, they make any settings τ
+whole-mouse : (mo so : Bool) (τ σ : Settings) → mo ≡ τ .mouseon → so ≡ τ .stickson → leave-monitoring (τ .stick) ≡ τ .stick → ForMouse ≡ τ .port0 →
+    let a = with-stick (τ .stick) σ in
+    let b = cond so a (without-sticks a) in
+    let c = with-origin (τ .bottom) (with-scale (τ .scale) (with-threshold (τ .threshold) (with-mouse (τ .mouse) (with-action (τ .action) b)))) in
+    cond mo c (without-mouse c) ≡ τ
+whole-mouse true true τ σ m s l r = same τ m s l r
+whole-mouse true false τ σ m s l r = same τ m s (ap leave-monitoring l ∙ l) r
+whole-mouse false true τ σ m s l r = same τ m s l r
+whole-mouse false false τ σ m s l r = same τ m s (ap leave-monitoring l ∙ l) r
+
+whole-joystick : (mo so : Bool) (τ σ : Settings) → mo ≡ τ .mouseon → so ≡ τ .stickson → leave-monitoring (τ .stick) ≡ τ .stick → ForJoystick ≡ τ .port0 →
+    let c = with-origin (τ .bottom) (with-scale (τ .scale) (with-threshold (τ .threshold) (with-mouse (τ .mouse) (with-action (τ .action) σ)))) in
+    let d = with-stick (τ .stick) (cond mo c (without-mouse c)) in
+    cond so d (without-sticks d) ≡ τ
+whole-joystick true true τ σ m s l r = same τ m s refl r
+whole-joystick true false τ σ m s l r = same τ m s l r
+whole-joystick false true τ σ m s l r = same τ m s refl r
+whole-joystick false false τ σ m s l r = same τ m s l r
+
+sent : (r : Role) (τ σ : Settings) → r ≡ τ .port0 → τ .action ≤ most-action → monitors (τ .stick) ≡ false →
+    eats (at-rest σ) (in-order r (λ q. kept-bytes q τ)) .settings ≡ τ
+unfolding restored
+sent ForMouse τ σ e range out =
+    ap (λ (c : Core). c .settings) (sent-mouse τ σ range) ∙ whole-mouse (τ .mouseon) (τ .stickson) τ σ refl refl (stays (τ .stick) out) e
+sent ForJoystick τ σ e range out =
+    ap (λ (c : Core). c .settings) (sent-joystick τ σ range) ∙ whole-joystick (τ .mouseon) (τ .stickson) τ σ refl refl (stays (τ .stick) out) e
+
+-- what the half-received command holds between commands does not matter
+from-between : (c : Core) (bs : List ℕ) → Between (c .command) → eats c bs .settings ≡ eats (at-rest (c .settings)) bs .settings
+from-between c [] h = refl
+from-between c (b ∷ bs) h = ap (λ (d : Core). eats d bs .settings) (eat-between c b h)
+
+-- the kept bytes of all eight, in the order for the role of port 0, make the settings τ, whatever the settings were
+pub put-back : (τ : Settings) (c : Core) → τ .action ≤ most-action → monitors (τ .stick) ≡ false → Between (c .command) →
+    eats c (in-order (τ .port0) (λ q. kept-bytes q τ)) .settings ≡ τ
+put-back τ c range out between =
+    from-between c (in-order (τ .port0) (λ q. kept-bytes q τ)) between ∙ sent (τ .port0) τ (c .settings) refl range out
+
+-- the table's line of each of the eight
+pub known : (q : Inquiry) → line (code-of q) ≡ entry (code-of q) 0 (inquire q)
+unfolding table find line
+known ask-action = refl
+known ask-mouse = refl
+known ask-threshold = refl
+known ask-scale = refl
+known ask-origin = refl
+known ask-mouse-off = refl
+known ask-stick = refl
+known ask-sticks-off = refl
+
+-- an inquiry, or a code that does nothing
+abbrev pub asks : Meaning → Bool
+asks nothing = true
+asks memory = false
+asks pause = false
+asks reset = false
+asks (of-mouse m) = false
+asks (of-stick k) = false
+asks (of-other o) = false
+asks (inquire q) = true
+
+-- such a code has no parameters
+pub asks-alone : (b : ℕ) → asks (meaning-of b) ≡ true → parameters-of b ≡ 0
+unfolding every table line
+asks-alone b h = eqb-true (parameters-of b) 0 (subst (λ (t : Bool). cond t (eqb (parameters-of b) 0) true ≡ true) h
+    (find-passes (λ e. cond (asks (e .meaning)) (eqb (e .parameters) 0) true) table b refl refl))
+
+-- and is whole at once
+pub fed-alone : (b : ℕ) → parameters-of b ≡ 0 → feed no-command b ≡ whole b zeros
+unfolding begin feed
+fed-alone b h = rw h
+
+either : (t : Bool) (σ : Settings) → cond t σ σ ≡ σ
+either true σ = refl
+either false σ = refl
+
+-- it changes no setting
+asks-only : (m : Meaning) (σ : Settings) → asks m ≡ true → settings-then m zeros σ ≡ σ
+unfolding executed sets settings-then
+asks-only nothing σ h = refl
+asks-only memory σ h = refl
+asks-only pause σ h = refl
+asks-only reset σ h = refl
+asks-only (of-mouse m) σ h = absurd (true≢false (sym h))
+asks-only (of-stick k) σ h = absurd (true≢false (sym h))
+asks-only (of-other o) σ h = absurd (true≢false (sym h))
+asks-only (inquire q) σ h = either (not (monitors (σ .stick))) σ
+
+-- an inquiry or a code that does nothing changes neither the settings nor the place between commands
+pub still : (b : ℕ) (σ : Settings) → asks (meaning-of b) ≡ true → eat (at-rest σ) b ≡ at-rest σ
+unfolding settings-after command-after
+still b σ h = rw (fed-alone b (asks-alone b h), asks-only (meaning-of b) σ h)
+
+-- nor do several
+pub quiet : (c : Core) (bs : List ℕ) → Between (c .command) → ((b : ℕ) → List·Memᴰ b bs → asks (meaning-of b) ≡ true) →
+    (eats c bs .settings ≡ c .settings) × Between (eats c bs .command)
+quiet c [] h only = (refl, h)
+quiet c (b ∷ bs) h only =
+    let e : eat c b ≡ at-rest (c .settings) = eat-between c b h ∙ still b (c .settings) (only b (List·Memᴰ·head refl)) in
+    subst (λ (d : Core). (eats d bs .settings ≡ c .settings) × Between (eats d bs .command)) (sym e)
+    (quiet (at-rest (c .settings)) bs refl (λ x m. only x (List·Memᴰ·tail m)))
+
+mouse-reply-length : (m : MouseMode) → length (bytes-of (mouse-reply m)) ≡ 8
+mouse-reply-length Relative = refl
+mouse-reply-length (Absolute p) = refl
+mouse-reply-length (Keycode d) = refl
+
+stick-reply-length : (m : StickMode) → length (bytes-of (stick-reply m)) ≡ 8
+stick-reply-length Event = refl
+stick-reply-length Interrogation = refl
+stick-reply-length (Monitoring rate) = refl
+stick-reply-length Fire = refl
+stick-reply-length (Cursor x y) = refl
+
+-- a reply is 8 bytes long
+pub reply-length : (q : Inquiry) (σ : Settings) → length (bytes-of (reply q σ)) ≡ 8
+unfolding reply
+reply-length ask-action σ = refl
+reply-length ask-mouse σ = mouse-reply-length (σ .mouse)
+reply-length ask-threshold σ = refl
+reply-length ask-scale σ = refl
+reply-length ask-origin σ = refl
+reply-length ask-mouse-off σ = refl
+reply-length ask-stick σ = stick-reply-length (σ .stick)
+reply-length ask-sticks-off σ = refl

@@ -1,0 +1,135 @@
+-- Executed commands keep the ranges of the settings.
+-- Assumes nothing.
+use Prim.Native.Nat.{ℕ, _+_, _*_, _≤_, _<_}
+use native.Mathlib.Omega.{arith}
+use mathlib.Core.Path.{_≡_, refl}
+use mathlib.Core.Bool.{Bool, true, false}
+use mathlib.Core.List.{List}
+use lib.Dec.{leb}
+use lib.ListN.{getD}
+use borrow.Author.Tests.{leb-true, lt-leb, le-leb}
+use Rattle.protocol.specs.declared.Axes.{Axes}
+use Rattle.protocol.specs.declared.MouseMode.{MouseMode}
+use Rattle.protocol.specs.declared.MouseMode.the-variants.{Relative, Absolute, Keycode}
+use Rattle.protocol.specs.declared.StickMode.{StickMode}
+use Rattle.protocol.specs.declared.StickMode.the-variants.{Event, Interrogation, Monitoring, Fire, Cursor}
+use Rattle.protocol.specs.declared.Role.{Role}
+use Rattle.protocol.specs.declared.Role.the-variants.{ForMouse, ForJoystick}
+use Rattle.protocol.specs.declared.Settings.{Settings}
+use Rattle.protocol.specs.Codes.{MouseCommand, button-action, relative, absolute, keycode, threshold, scale, report-position, load-position, origin-bottom, origin-top, StickCommand, event, interrogation, report-sticks, monitoring, fire, cursor, sticks-off, OtherCommand, resume, mouse-off, set-clock, report-clock, Meaning, nothing, memory, pause, reset, of-mouse, of-stick, of-other, inquire}
+use Rattle.protocol.specs.Reading.{AllBytes}
+use Rattle.protocol.specs.Settings.{IsAxes, IsPoint, IsMouseMode, IsStickMode, IsSettings, most-action, power-up}
+use Rattle.protocol.specs.Commands.{mouse-executed, executed, leave-monitoring, axes-at, point-at, with-action, with-threshold, with-scale, with-origin, with-mouse, with-role, without-mouse, with-stick, without-sticks, mouse-sets, cursor-of, stick-sets, other-sets, sets}
+use Rattle.protocol.proofs.Reading.{getD-byte}
+
+-- power-up's settings are within their ranges
+pub power-up-is : IsSettings power-up
+power-up-is = record {
+  mouse = tt;
+  action = omega arith;
+  threshold = omega arith;
+  scale = omega arith;
+  stick = tt;
+}
+
+-- so are those with one replaced by what is within its range
+with-action-is : (a : ℕ) (σ : Settings) → a ≤ most-action → IsSettings σ → IsSettings (with-action a σ)
+with-action-is a σ h i = record { mouse = i .mouse; action = h; threshold = i .threshold; scale = i .scale; stick = i .stick }
+
+with-threshold-is : (a : Axes) (σ : Settings) → IsAxes a → IsSettings σ → IsSettings (with-threshold a σ)
+with-threshold-is a σ h i = record { mouse = i .mouse; action = i .action; threshold = h; scale = i .scale; stick = i .stick }
+
+with-scale-is : (a : Axes) (σ : Settings) → IsAxes a → IsSettings σ → IsSettings (with-scale a σ)
+with-scale-is a σ h i = record { mouse = i .mouse; action = i .action; threshold = i .threshold; scale = h; stick = i .stick }
+
+with-origin-is : (b : Bool) (σ : Settings) → IsSettings σ → IsSettings (with-origin b σ)
+with-origin-is b σ i = record { mouse = i .mouse; action = i .action; threshold = i .threshold; scale = i .scale; stick = i .stick }
+
+with-role-is : (r : Role) (σ : Settings) → IsSettings σ → IsSettings (with-role r σ)
+with-role-is r σ i = record { mouse = i .mouse; action = i .action; threshold = i .threshold; scale = i .scale; stick = i .stick }
+
+left-is : (k : StickMode) → IsStickMode k → IsStickMode (leave-monitoring k)
+left-is Event i = tt
+left-is Interrogation i = tt
+left-is (Monitoring rate) i = tt
+left-is Fire i = tt
+left-is (Cursor x y) i = i
+
+with-mouse-is : (m : MouseMode) (σ : Settings) → IsMouseMode m → IsSettings σ → IsSettings (with-mouse m σ)
+with-mouse-is m σ h i = record { mouse = h; action = i .action; threshold = i .threshold; scale = i .scale; stick = left-is (σ .stick) (i .stick) }
+
+without-mouse-is : (σ : Settings) → IsSettings σ → IsSettings (without-mouse σ)
+without-mouse-is σ i = record { mouse = i .mouse; action = i .action; threshold = i .threshold; scale = i .scale; stick = i .stick }
+
+with-stick-is : (k : StickMode) (σ : Settings) → IsStickMode k → IsSettings σ → IsSettings (with-stick k σ)
+with-stick-is k σ h i = record { mouse = i .mouse; action = i .action; threshold = i .threshold; scale = i .scale; stick = h }
+
+without-sticks-is : (σ : Settings) → IsSettings σ → IsSettings (without-sticks σ)
+without-sticks-is σ i = record { mouse = i .mouse; action = i .action; threshold = i .threshold; scale = i .scale; stick = left-is (σ .stick) (i .stick) }
+
+-- numbers read from parameter bytes are within their ranges
+axes-is : (ps : List ℕ) → AllBytes ps → IsAxes (axes-at 0 ps)
+axes-is ps h = record { x = getD-byte ps 0 h; y = getD-byte ps 1 h }
+
+point-is : (ps : List ℕ) → AllBytes ps → IsPoint (point-at 0 ps)
+point-is ps h =
+    let a = getD-byte ps 0 h in let b = getD-byte ps 1 h in let c = getD-byte ps 2 h in let d = getD-byte ps 3 h in
+    omega arith
+
+cursor-is : (ps : List ℕ) → AllBytes ps → IsStickMode (cursor-of ps)
+cursor-is ps h = (
+  record { breakpoint = getD-byte ps 0 h; before = getD-byte ps 2 h; after = getD-byte ps 4 h },
+  record { breakpoint = getD-byte ps 1 h; before = getD-byte ps 3 h; after = getD-byte ps 5 h },
+)
+
+-- "0x07 above 4" is ignored
+pub action-above-4 : (ps : List ℕ) (σ : Settings) → 4 < getD ps 0 0 → executed (of-mouse button-action) ps σ ≡ false
+unfolding mouse-executed executed
+action-above-4 ps σ h = lt-leb (getD ps 0 0) most-action (omega arith)
+
+-- and up to 4 it is executed
+pub action-to-4 : (ps : List ℕ) (σ : Settings) → getD ps 0 0 ≤ 4 → executed (of-mouse button-action) ps σ ≡ true
+unfolding mouse-executed executed
+action-to-4 ps σ h = le-leb (getD ps 0 0) most-action (omega arith)
+
+mouse-is : (m : MouseCommand) (ps : List ℕ) (σ : Settings) → AllBytes ps → mouse-executed m ps σ ≡ true → IsSettings σ → IsSettings (mouse-sets m ps σ)
+unfolding mouse-executed mouse-sets
+mouse-is button-action ps σ h e i = with-action-is (getD ps 0 0) σ (leb-true (getD ps 0 0) most-action e) i
+mouse-is relative ps σ h e i = with-mouse-is Relative σ tt i
+mouse-is absolute ps σ h e i = with-mouse-is (Absolute (point-at 0 ps)) σ (point-is ps h) i
+mouse-is keycode ps σ h e i = with-mouse-is (Keycode (axes-at 0 ps)) σ (axes-is ps h) i
+mouse-is threshold ps σ h e i = with-threshold-is (axes-at 0 ps) σ (axes-is ps h) i
+mouse-is scale ps σ h e i = with-scale-is (axes-at 0 ps) σ (axes-is ps h) i
+mouse-is report-position ps σ h e i = with-role-is ForMouse σ i
+mouse-is load-position ps σ h e i = with-role-is ForMouse σ i
+mouse-is origin-bottom ps σ h e i = with-origin-is true σ i
+mouse-is origin-top ps σ h e i = with-origin-is false σ i
+
+stick-is : (k : StickCommand) (ps : List ℕ) (σ : Settings) → AllBytes ps → IsSettings σ → IsSettings (stick-sets k ps σ)
+unfolding stick-sets
+stick-is event ps σ h i = with-stick-is Event σ tt i
+stick-is interrogation ps σ h i = with-stick-is Interrogation σ tt i
+stick-is report-sticks ps σ h i = with-role-is ForJoystick σ i
+stick-is monitoring ps σ h i = with-stick-is (Monitoring (getD ps 0 0)) σ (getD-byte ps 0 h) i
+stick-is fire ps σ h i = with-stick-is Fire σ tt i
+stick-is cursor ps σ h i = with-stick-is (cursor-of ps) σ (cursor-is ps h) i
+stick-is sticks-off ps σ h i = without-sticks-is σ i
+
+other-is : (o : OtherCommand) (σ : Settings) → IsSettings σ → IsSettings (other-sets o σ)
+unfolding other-sets
+other-is resume σ i = i
+other-is mouse-off σ i = without-mouse-is σ i
+other-is set-clock σ i = i
+other-is report-clock σ i = i
+
+-- an executed command of bytes keeps the ranges of the settings
+pub settings-is : (m : Meaning) (ps : List ℕ) (σ : Settings) → AllBytes ps → executed m ps σ ≡ true → IsSettings σ → IsSettings (sets m ps σ)
+unfolding executed sets
+settings-is nothing ps σ h e i = i
+settings-is memory ps σ h e i = i
+settings-is pause ps σ h e i = i
+settings-is reset ps σ h e i = power-up-is
+settings-is (of-mouse m) ps σ h e i = mouse-is m ps σ h e i
+settings-is (of-stick k) ps σ h e i = stick-is k ps σ h i
+settings-is (of-other o) ps σ h e i = other-is o σ i
+settings-is (inquire q) ps σ h e i = i

@@ -1,0 +1,4 @@
+pub mod States
+pub mod Laws
+pub mod Lengths
+pub mod Examples
