@@ -2,3 +2,4 @@ pub mod Delivery
 pub mod Refusals
 pub mod States
 pub mod Lengths
+pub mod Examples

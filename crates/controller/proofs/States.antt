@@ -11,7 +11,7 @@ use lib.ListN.{length, take, drop, replicate, length-append, length-replicate}
 use lib.Seq.{length-take-le, drop-append-seam}
 use borrow.Author.Tests.{ltb-false, leb-true, not-false}
 use Rattle.output.specs.Packets.{Packet, bytes}
-use Rattle.output.proofs.Cases.{both-ways, and-true}
+use Rattle.output.proofs.Cases.{both-ways, and-true, and-false}
 use Rattle.clock.specs.declared.Clock.{Clock}
 use Rattle.clock.specs.Clock.{IsClock, tick}
 use Rattle.clock.specs.Setting.{set-to}
@@ -213,9 +213,14 @@ host-is (whole code ps) s g h =
     (λ x. executes-is (meaning-of code) ps s (g .1) x h)
     (λ _. reading-is (whole code ps) s g h)
 
+-- where the second refusal does not hold, what is to be queued fits
+room-left : (s : State) (i : Input) (lent : ℕ) → queue-full s i lent ≡ false → s .paused ≡ true → s .queue .len + length (due s i .queued) ≤ queue-room
+unfolding queue-full
+room-left s i lent q p = let fits = and-false (s .paused) _ q p in omega (arith, ltb-false)
+
 -- Events: the queue takes what fits, and the parts stay good.
 happened-is : (ps : List Packet) (m : Mouse) (k : Sticks) (t : Clock) (s : State) → IsState s →
-    (s .paused && ltb queue-room (s .queue .len + length (happened ps m k t s .queued))) ≡ false →
+    (s .paused ≡ true → s .queue .len + length (happened ps m k t s .queued) ≤ queue-room) →
     GoodMouse (s .paused) (s .settings) m → GoodSticks (s .settings .stick) k → IsClock t → IsState (happened ps m k t s .state)
 unfolding happened
 happened-is ps m k t s h fits gm gk gt =
@@ -228,16 +233,11 @@ happened-is ps m k t s h fits gm gk gt =
       clock = gt;
     })
   where
-    by : (p : Bool) → GoodQueue p (s .queue) → (p && ltb queue-room (s .queue .len + length (cond p (bytes ps) []))) ≡ false →
+    by : (p : Bool) → GoodQueue p (s .queue) → (p ≡ true → s .queue .len + length (cond p (bytes ps) []) ≤ queue-room) →
         GoodQueue p (cond p (queue-of (contents (s .queue) ++ bytes ps)) (s .queue))
     by true g e =
         filled-is (contents (s .queue) ++ bytes ps)
-        (omega (
-          arith,
-          length-append (contents (s .queue)) (bytes ps),
-          contents-length true (s .queue) (g .ranges),
-          ltb-false queue-room (s .queue .len + length (bytes ps)) e,
-        ))
+        (omega (arith, length-append (contents (s .queue)) (bytes ps), contents-length true (s .queue) (g .ranges), e refl))
     by false g e = g
 
 small : (most : ℕ) (z : ℤ) → up-to most z ≡ true → natAbs z ≤ most
@@ -247,21 +247,21 @@ small most (negsuc n) e = absurd (true≢false (sym e))
 -- What an input leads to, where the first three refusals do not hold.
 due-is : (s : State) (i : Input) (lent : ℕ) → IsState s → IsInput i → in-range i ≡ true → queue-full s i lent ≡ false → motion-full s i lent ≡ false →
     IsState (due s i .state)
-unfolding due in-range queue-full motion-full too-far
+unfolding due in-range motion-full too-far
 due-is s (Byte b) lent h x r q f = host-is (feed (s .command) b) s (fed-is (s .command) b (h .ranges .command) (h .spelling .command) x) h
-due-is s (Key code down) lent h x r q f = happened-is _ (s .mouse) (s .sticks) (s .clock) s h q (parts-of h .mouse) (parts-of h .sticks) (h .ranges .clock)
+due-is s (Key code down) lent h x r q f = happened-is _ (s .mouse) (s .sticks) (s .clock) s h (room-left s (Key code down) lent q) (parts-of h .mouse) (parts-of h .sticks) (h .ranges .clock)
 due-is s (Button side down) lent h x r q f =
-    happened-is _ _ (s .sticks) (s .clock) s h q (mouse.presses-is (s .paused) (s .settings) side down (s .mouse) (parts-of h .mouse)) (parts-of h .sticks) (h .ranges .clock)
+    happened-is _ _ (s .sticks) (s .clock) s h (room-left s (Button side down) lent q) (mouse.presses-is (s .paused) (s .settings) side down (s .mouse) (parts-of h .mouse)) (parts-of h .sticks) (h .ranges .clock)
 due-is s (Move dx dy) lent h x r q f =
-    happened-is _ _ (s .sticks) (s .clock) s h q (mouse.moves-is (s .paused) (s .settings) dx dy (s .mouse) (h .ranges .settings) f (parts-of h .mouse)) (parts-of h .sticks) (h .ranges .clock)
+    happened-is _ _ (s .sticks) (s .clock) s h (room-left s (Move dx dy) lent q) (mouse.moves-is (s .paused) (s .settings) dx dy (s .mouse) (h .ranges .settings) f (parts-of h .mouse)) (parts-of h .sticks) (h .ranges .clock)
 due-is s (Joystick which place trigger) lent h x r q f =
-    happened-is _ (s .mouse) _ (s .clock) s h q (parts-of h .mouse)
+    happened-is _ (s .mouse) _ (s .clock) s h (room-left s (Joystick which place trigger) lent q) (parts-of h .mouse)
     (sticks.moved-is (s .settings) _ _ (s .sticks) (small most-position place (and-true (up-to 1 which) (up-to most-position place) (and-true (up-to 1 which && up-to most-position place) (up-to 1 trigger) r .0) .1)) (parts-of h .sticks))
     (h .ranges .clock)
 due-is s (Sample b) lent h x r q f =
-    happened-is _ (s .mouse) _ (s .clock) s h q (parts-of h .mouse) (sticks.sampled-is (s .paused) (s .settings) (natAbs b) (s .sticks) (small 1 b r) (parts-of h .sticks)) (h .ranges .clock)
+    happened-is _ (s .mouse) _ (s .clock) s h (room-left s (Sample b) lent q) (parts-of h .mouse) (sticks.sampled-is (s .paused) (s .settings) (natAbs b) (s .sticks) (small 1 b r) (parts-of h .sticks)) (h .ranges .clock)
 due-is s Tick lent h x r q f =
-    happened-is _ (s .mouse) _ (tick (s .clock)) s h q (parts-of h .mouse) (sticks.ticked-is (s .paused) (s .settings) (s .sticks) (parts-of h .sticks)) (tick-is (s .clock) (h .ranges .clock))
+    happened-is _ (s .mouse) _ (tick (s .clock)) s h (room-left s Tick lent q) (parts-of h .mouse) (sticks.ticked-is (s .paused) (s .settings) (s .sticks) (parts-of h .sticks)) (tick-is (s .clock) (h .ranges .clock))
 
 -- Every answer to a state gives a state.
 pub keeps : (s : State) (i : Input) (lent : ℕ) → IsState s → IsInput i → IsState (step s i lent .state)

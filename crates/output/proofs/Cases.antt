@@ -8,10 +8,14 @@ pub both-ways : {A : Type 0} (P : A → Type 0) (t : Bool) {a b : A} → (t ≡ 
 both-ways P true f g = f refl
 both-ways P false f g = g refl
 
--- a conjunction that holds, and a disjunction that does not
+-- a conjunction that holds, one that does not though its first part does, and a disjunction that does not
 pub and-true : (a b : Bool) → (a && b) ≡ true → (a ≡ true) × (b ≡ true)
 and-true true b h = (refl, h)
 and-true false b h = absurd (true≢false (sym h))
+
+pub and-false : (a b : Bool) → (a && b) ≡ false → a ≡ true → b ≡ false
+and-false true b h e = h
+and-false false b h e = absurd (true≢false (sym e))
 
 pub or-false : (a b : Bool) → (a || b) ≡ false → (a ≡ false) × (b ≡ false)
 or-false true b h = absurd (true≢false h)

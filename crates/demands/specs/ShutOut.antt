@@ -1,0 +1,92 @@
+-- Document 01, "How much each contract says": the controllers that it shuts out by name.
+-- What the step promises is said with the step; here is that no controller with that promise is one of the five.
+use Prim.Native.Nat.{ℕ, _≤_}
+use mathlib.Core.Path.{_≡_}
+use mathlib.Core.Logic.{_≢_}
+use mathlib.Core.List.{List, [], _∷_}
+use lib.ListN.{length, take}
+use Rattle.protocol.specs.Reading.{AllBytes}
+use Rattle.controller.specs.declared.State.{State}
+use Rattle.controller.specs.declared.Stepped.{Stepped}
+use Rattle.controller.specs.declared.Input.{Input}
+use Rattle.controller.specs.declared.Input.the-variants.{Byte}
+use Rattle.controller.specs.declared.Answer.{Answer}
+use Rattle.controller.specs.declared.Answer.the-variants.{Taken, OutOfRange, QueueFull, MotionFull, BufferShort}
+use Rattle.controller.specs.State.{IsState, power-up}
+use Rattle.controller.specs.Host.{Due}
+use Rattle.controller.specs.Step.{IsInput, due, Did}
+
+-- what a controller hands back, and the lent buffer afterwards
+pub record Outcome : Type 0 where
+  pub stepped : Stepped
+  pub buffer : List ℕ
+
+-- "A controller state goes in with one input and a lent output buffer."
+abbrev pub Controller : Type 0
+Controller = State → Input → List ℕ → Outcome
+
+-- a call that may be made: a state, an input and a buffer of bytes, of any length
+pub record Call : Type 0 where
+  pub state : State
+  pub is-state : IsState state
+  pub input : Input
+  pub is-input : IsInput input
+  pub lent : List ℕ
+  pub is-lent : AllBytes lent
+
+abbrev pub outcome : Controller → Call → Outcome
+outcome c k = c (k .state) (k .input) (k .lent)
+
+-- the controller keeps the step's promise at every call
+abbrev pub Meets : Controller → Type 0
+Meets c = (k : Call) → Did (k .state) (k .input) (k .lent) (outcome c k .stepped) (outcome c k .buffer)
+
+-- "a controller that refuses everything"
+abbrev pub RefusesEverything : Controller → Type 0
+RefusesEverything c = (k : Call) → outcome c k .stepped .answer ≢ Taken
+
+-- "one that sends 0xF0 at every input": wherever there is room for it, whatever it sends besides
+abbrev pub SendsF0 : Controller → Type 0
+SendsF0 c = (k : Call) → 1 ≤ length (k .lent) → (1 ≤ outcome c k .stepped .count) × (take 1 (outcome c k .buffer) ≡ 0xF0 ∷ [])
+
+-- "or swallows all input": nothing is ever sent, whatever it answers
+abbrev pub SwallowsAllInput : Controller → Type 0
+SwallowsAllInput c = (k : Call) → outcome c k .stepped .count ≡ 0
+
+-- the states that a controller comes to from a state, by inputs with buffers of any length
+pub data Later (c : Controller) (s : State) : State → Type 0 where
+  now : Later c s s
+  next : {t : State} → Later c s t → (i : Input) → IsInput i → (lent : List ℕ) → AllBytes lent → Later c s (c t i lent .stepped .state)
+
+-- it idles from a state on: no input sends anything, now or later
+abbrev pub IdlesFrom : Controller → State → Type 0
+IdlesFrom c s = (t : State) → Later c s t → (i : Input) → IsInput i → (lent : List ℕ) → AllBytes lent → c t i lent .stepped .count ≡ 0
+
+-- "one that handles the first byte of a session and idles afterwards"
+abbrev pub HandlesFirstByteOnly : Controller → Type 0
+HandlesFirstByteOnly c = (b : ℕ) → b ≤ 255 → (lent : List ℕ) → AllBytes lent → IdlesFrom c (c power-up (Byte b) lent .stepped .state)
+
+-- the count by its answer: "it is the length of the bytes due", and a refusal "reports 0 bytes written"
+abbrev pub count-due : Answer → Due → ℕ
+count-due Taken d = length (d .written)
+count-due OutOfRange d = 0
+count-due QueueFull d = 0
+count-due MotionFull d = 0
+count-due BufferShort d = 0
+
+-- "one with an invented byte count": at some call it is another
+pub record InventsCount (c : Controller) : Type 0 where
+  pub call : Call
+  pub another : outcome c call .stepped .count ≢ count-due (outcome c call .stepped .answer) (due (call .state) (call .input))
+
+-- a controller that is none of the five
+pub record NoneOfThese (c : Controller) : Type 0 where
+  pub takes-something : RefusesEverything c → ⊥
+  pub sends-not-only-f0 : SendsF0 c → ⊥
+  pub sends-something : SwallowsAllInput c → ⊥
+  pub goes-on : HandlesFirstByteOnly c → ⊥
+  pub counts-what-is-due : InventsCount c → ⊥
+
+-- The five are shut out by the step's promise.
+abbrev pub ShutOut : Type 0
+ShutOut = (c : Controller) → Meets c → NoneOfThese c
