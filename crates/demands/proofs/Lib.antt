@@ -1,6 +1,10 @@
 pub mod States
 pub mod Demand1
 pub mod Demand2
+pub mod Core
+pub mod Asking
+pub mod PutBack
+pub mod Witness3
 pub mod Rules
 pub mod Sessions
 pub mod MostDue

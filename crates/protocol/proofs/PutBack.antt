@@ -3,9 +3,8 @@
 -- Assumes nothing.
 use Prim.Native.Nat.{ℕ, _≤_}
 use mathlib.Core.Path.{_≡_, refl, sym, ap, _∙_, subst}
-use mathlib.Core.Logic.{_⊎_, inl, inr}
 use mathlib.Core.Bool.{Bool, true, false, cond, not, true≢false}
-use mathlib.Core.List.{List, [], _∷_, _++_, List·Memᴰ, List·Memᴰ·head, List·Memᴰ·tail}
+use mathlib.Core.List.{List, [], _∷_, List·Memᴰ, List·Memᴰ·head, List·Memᴰ·tail}
 use lib.Dec.{eqb}
 use lib.ListN.{length}
 use borrow.Author.Tests.{eqb-true}
@@ -17,7 +16,7 @@ use Rattle.protocol.specs.declared.MouseMode.the-variants.{Relative, Abs
 use Rattle.protocol.specs.declared.Role.{Role}
 use Rattle.protocol.specs.declared.Role.the-variants.{ForMouse, ForJoystick}
 use Rattle.protocol.specs.declared.Settings.{Settings}
-use Rattle.protocol.specs.Codes.{Inquiry, ask-action, ask-mouse, ask-threshold, ask-scale, ask-origin, ask-mouse-off, ask-stick, ask-sticks-off, Entry, entry, Meaning, nothing, memory, pause, reset, of-mouse, of-stick, of-other, inquire, table, find, line, parameters-of, meaning-of}
+use Rattle.protocol.specs.Codes.{Inquiry, ask-action, ask-mouse, ask-threshold, ask-scale, ask-origin, ask-mouse-off, ask-stick, ask-sticks-off, entry, Meaning, nothing, memory, pause, reset, of-mouse, of-stick, of-other, inquire, table, find, line, parameters-of, meaning-of}
 use Rattle.protocol.specs.Reading.{zeros, no-command, Between, whole, begin, feed, command-after}
 use Rattle.protocol.specs.Settings.{most-action, monitors}
 use Rattle.protocol.specs.Commands.{executed, leave-monitoring, with-action, with-threshold, with-scale, with-origin, with-mouse, without-mouse, with-stick, without-sticks, sets, settings-then, settings-after}

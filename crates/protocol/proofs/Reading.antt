@@ -8,7 +8,7 @@ use mathlib.Core.List.{List, [], _∷_}
 use lib.Dec.{eqb, leb, ltb}
 use lib.ListN.{length, getD, set, drop, replicate, length-set}
 use lib.Seq.{drop-set-lt, drop-drop, getD-set-same}
-use borrow.Author.Tests.{ltb-true, ltb-false, leb-true, eqb-true, eqb-false, eq-eqb, ne-eqb}
+use borrow.Author.Tests.{ltb-true, ltb-false, leb-true, eqb-true, eqb-false, eq-eqb}
 use Rattle.protocol.specs.declared.Command.{Command}
 use Rattle.protocol.specs.Codes.{Entry, entry, nothing, table, find, line, parameters-of, memory-load}
 use Rattle.protocol.specs.Reading.{most-parameters, zeros, no-command, Fed, half, whole, begin, take-parameter, take-data, feed, command-after, AllBytes, missing, data-told, IsCommand, OneCommand}
