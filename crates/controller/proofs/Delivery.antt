@@ -11,7 +11,9 @@ use lib.Seq.{take-append-seam}
 use Rattle.output.specs.Packets.{Packet, scan, motion, position, time, sticks, stick, monitor, samples, status, version, bytes-of, bytes}
 use Rattle.output.proofs.Packets.{bytes-append}
 use Rattle.clock.specs.declared.Clock.{Clock}
-use Rattle.protocol.specs.Codes.{Meaning, nothing, memory, pause, reset, of-mouse, of-stick, of-other, inquire, meaning-of}
+use Rattle.protocol.specs.declared.Meaning.{Meaning}
+use Rattle.protocol.specs.declared.Meaning.the-variants.{Nothing, Memory, Pause, Reset, OfMouse, OfStick, OfOther, Inquire}
+use Rattle.protocol.specs.Codes.{meaning-of}
 use Rattle.protocol.specs.Reading.{Fed, half, whole, feed}
 use Rattle.protocol.specs.Commands.{executed}
 use Rattle.mouse.specs.declared.Mouse.{Mouse}
@@ -106,14 +108,14 @@ reset-flows s waiting e = record {
 executes-flows : (m : Meaning) (ps : List ℕ) (s : State) (waiting : List Packet) → contents (s .queue) ≡ bytes waiting →
     let d = executes m ps s in Flowed waiting (d .packets) (d .dropped) (d .written) (contents (d .state .queue))
 unfolding executes
-executes-flows nothing ps s waiting e = acted-flows nothing ps s waiting e
-executes-flows memory ps s waiting e = acted-flows memory ps s waiting e
-executes-flows pause ps s waiting e = stays waiting (contents (s .queue)) e
-executes-flows reset ps s waiting e = reset-flows s waiting e
-executes-flows (of-mouse c) ps s waiting e = acted-flows (of-mouse c) ps s waiting e
-executes-flows (of-stick c) ps s waiting e = acted-flows (of-stick c) ps s waiting e
-executes-flows (of-other c) ps s waiting e = acted-flows (of-other c) ps s waiting e
-executes-flows (inquire q) ps s waiting e = acted-flows (inquire q) ps s waiting e
+executes-flows Nothing ps s waiting e = acted-flows Nothing ps s waiting e
+executes-flows Memory ps s waiting e = acted-flows Memory ps s waiting e
+executes-flows Pause ps s waiting e = stays waiting (contents (s .queue)) e
+executes-flows Reset ps s waiting e = reset-flows s waiting e
+executes-flows (OfMouse c) ps s waiting e = acted-flows (OfMouse c) ps s waiting e
+executes-flows (OfStick c) ps s waiting e = acted-flows (OfStick c) ps s waiting e
+executes-flows (OfOther c) ps s waiting e = acted-flows (OfOther c) ps s waiting e
+executes-flows (Inquire q) ps s waiting e = acted-flows (Inquire q) ps s waiting e
 
 host-flows : (f : Fed) (s : State) (waiting : List Packet) → contents (s .queue) ≡ bytes waiting →
     let d = host-due f s in Flowed waiting (d .packets) (d .dropped) (d .written) (contents (d .state .queue))
@@ -221,14 +223,14 @@ step-delivers s i lent h =
 
 executes-drops : (m : Meaning) (ps : List ℕ) (s : State) → executes m ps s .dropped ≡ cond (is-reset m) (contents (s .queue)) []
 unfolding executes acted reset-due
-executes-drops nothing ps s = refl
-executes-drops memory ps s = refl
-executes-drops pause ps s = refl
-executes-drops reset ps s = refl
-executes-drops (of-mouse c) ps s = refl
-executes-drops (of-stick c) ps s = refl
-executes-drops (of-other c) ps s = refl
-executes-drops (inquire q) ps s = refl
+executes-drops Nothing ps s = refl
+executes-drops Memory ps s = refl
+executes-drops Pause ps s = refl
+executes-drops Reset ps s = refl
+executes-drops (OfMouse c) ps s = refl
+executes-drops (OfStick c) ps s = refl
+executes-drops (OfOther c) ps s = refl
+executes-drops (Inquire q) ps s = refl
 
 host-drops : (f : Fed) (s : State) → host-due f s .dropped ≡ cond (resets f s) (contents (s .queue)) []
 unfolding host-due resets

@@ -15,7 +15,13 @@ use Rattle.output.proofs.Packets.{bytes-append}
 use Rattle.clock.specs.declared.Clock.{Clock}
 use Rattle.clock.specs.Setting.{report}
 use Rattle.protocol.specs.declared.Settings.{Settings}
-use Rattle.protocol.specs.Codes.{MouseCommand, StickCommand, OtherCommand, resume, mouse-off, set-clock, report-clock, Meaning, nothing, memory, pause, reset, of-mouse, of-stick, of-other, inquire, meaning-of}
+use Rattle.protocol.specs.declared.MouseCommand.{MouseCommand}
+use Rattle.protocol.specs.declared.StickCommand.{StickCommand}
+use Rattle.protocol.specs.declared.OtherCommand.{OtherCommand}
+use Rattle.protocol.specs.declared.OtherCommand.the-variants.{Resume, MouseOff, SetClock, ReportClock}
+use Rattle.protocol.specs.declared.Meaning.{Meaning}
+use Rattle.protocol.specs.declared.Meaning.the-variants.{Nothing, Memory, Pause, Reset, OfMouse, OfStick, OfOther, Inquire}
+use Rattle.protocol.specs.Codes.{meaning-of}
 use Rattle.protocol.specs.Settings.{monitors}
 use Rattle.protocol.specs.Reading.{Fed, half, whole, feed}
 use Rattle.protocol.specs.Commands.{executed}
@@ -42,21 +48,21 @@ use Rattle.controller.proofs.States.{contents-length}
 -- what a command itself sends is no longer than a reply
 other-length : (c : OtherCommand) (ps : List ℕ) (m : Mouse) (k : Sticks) (t : Clock) → length (bytes (other-effect c ps m k t .packets)) ≤ longest-reply
 unfolding other-effect report
-other-length resume ps m k t = omega arith
-other-length mouse-off ps m k t = omega arith
-other-length set-clock ps m k t = omega arith
-other-length report-clock ps m k t = omega arith
+other-length Resume ps m k t = omega arith
+other-length MouseOff ps m k t = omega arith
+other-length SetClock ps m k t = omega arith
+other-length ReportClock ps m k t = omega arith
 
 effect-length : (c : Meaning) (ps : List ℕ) (σ : Settings) (m : Mouse) (k : Sticks) (t : Clock) → length (bytes (effect c ps σ m k t .packets)) ≤ longest-reply
 unfolding effect mouse-effect stick-effect
-effect-length nothing ps σ m k t = omega arith
-effect-length memory ps σ m k t = omega arith
-effect-length pause ps σ m k t = omega arith
-effect-length reset ps σ m k t = omega arith
-effect-length (of-mouse c) ps σ m k t = omega (arith, mouse.commanded-length c ps (σ .mouse) m)
-effect-length (of-stick c) ps σ m k t = omega (arith, sticks.commanded-length c (σ .stick) k)
-effect-length (of-other c) ps σ m k t = other-length c ps m k t
-effect-length (inquire q) ps σ m k t = omega (arith, length-append (bytes-of (reply q σ)) [], reply-length q σ)
+effect-length Nothing ps σ m k t = omega arith
+effect-length Memory ps σ m k t = omega arith
+effect-length Pause ps σ m k t = omega arith
+effect-length Reset ps σ m k t = omega arith
+effect-length (OfMouse c) ps σ m k t = omega (arith, mouse.commanded-length c ps (σ .mouse) m)
+effect-length (OfStick c) ps σ m k t = omega (arith, sticks.commanded-length c (σ .stick) k)
+effect-length (OfOther c) ps σ m k t = other-length c ps m k t
+effect-length (Inquire q) ps σ m k t = omega (arith, length-append (bytes-of (reply q σ)) [], reply-length q σ)
 
 -- what waits, and what a resume sends of held motion
 waiting-length : (s : State) → IsState s → length (contents (s .queue)) ≤ queue-room
@@ -82,14 +88,14 @@ acted-length m ps s h =
 
 executes-length : (m : Meaning) (ps : List ℕ) (s : State) → IsState s → length (executes m ps s .written) ≤ most-due
 unfolding executes reset-due
-executes-length nothing ps s h = acted-length nothing ps s h
-executes-length memory ps s h = acted-length memory ps s h
-executes-length pause ps s h = omega arith
-executes-length reset ps s h = omega arith
-executes-length (of-mouse c) ps s h = acted-length (of-mouse c) ps s h
-executes-length (of-stick c) ps s h = acted-length (of-stick c) ps s h
-executes-length (of-other c) ps s h = acted-length (of-other c) ps s h
-executes-length (inquire q) ps s h = acted-length (inquire q) ps s h
+executes-length Nothing ps s h = acted-length Nothing ps s h
+executes-length Memory ps s h = acted-length Memory ps s h
+executes-length Pause ps s h = omega arith
+executes-length Reset ps s h = omega arith
+executes-length (OfMouse c) ps s h = acted-length (OfMouse c) ps s h
+executes-length (OfStick c) ps s h = acted-length (OfStick c) ps s h
+executes-length (OfOther c) ps s h = acted-length (OfOther c) ps s h
+executes-length (Inquire q) ps s h = acted-length (Inquire q) ps s h
 
 host-length : (f : Fed) (s : State) → IsState s → length (host-due f s .written) ≤ most-due
 unfolding host-due

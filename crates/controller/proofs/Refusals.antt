@@ -10,7 +10,9 @@ use lib.ListN.{length}
 use borrow.Author.Tests.{ltb-true, le-ltb}
 use Rattle.output.specs.Packets.{Packet, bytes}
 use Rattle.output.proofs.Cases.{and-true}
-use Rattle.protocol.specs.Codes.{Meaning, nothing, memory, pause, reset, of-mouse, of-stick, of-other, inquire, meaning-of}
+use Rattle.protocol.specs.declared.Meaning.{Meaning}
+use Rattle.protocol.specs.declared.Meaning.the-variants.{Nothing, Memory, Pause, Reset, OfMouse, OfStick, OfOther, Inquire}
+use Rattle.protocol.specs.Codes.{meaning-of}
 use Rattle.protocol.specs.Reading.{Fed, half, whole, feed}
 use Rattle.protocol.specs.Commands.{executed}
 use Rattle.mouse.proofs.Lengths.{moves-paused}
@@ -27,14 +29,14 @@ use Rattle.controller.specs.Step.{due, out-of-range, queue-full, too-far
 -- a host byte queues nothing
 executes-queues : (m : Meaning) (ps : List ℕ) (s : State) → executes m ps s .queued ≡ []
 unfolding executes acted reset-due
-executes-queues nothing ps s = refl
-executes-queues memory ps s = refl
-executes-queues pause ps s = refl
-executes-queues reset ps s = refl
-executes-queues (of-mouse c) ps s = refl
-executes-queues (of-stick c) ps s = refl
-executes-queues (of-other c) ps s = refl
-executes-queues (inquire q) ps s = refl
+executes-queues Nothing ps s = refl
+executes-queues Memory ps s = refl
+executes-queues Pause ps s = refl
+executes-queues Reset ps s = refl
+executes-queues (OfMouse c) ps s = refl
+executes-queues (OfStick c) ps s = refl
+executes-queues (OfOther c) ps s = refl
+executes-queues (Inquire q) ps s = refl
 
 host-queues : (f : Fed) (s : State) → host-due f s .queued ≡ []
 unfolding host-due

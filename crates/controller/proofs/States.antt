@@ -17,7 +17,14 @@ use Rattle.clock.specs.Clock.{IsClock, tick}
 use Rattle.clock.specs.Setting.{set-to}
 use Rattle.clock.proofs.Laws.{first-is, tick-is, set-is}
 use Rattle.protocol.specs.declared.Settings.{Settings}
-use Rattle.protocol.specs.Codes.{MouseCommand, StickCommand, event, interrogation, report-sticks, monitoring, fire, cursor, sticks-off, OtherCommand, resume, mouse-off, set-clock, report-clock, Meaning, nothing, memory, pause, reset, of-mouse, of-stick, of-other, inquire, meaning-of}
+use Rattle.protocol.specs.declared.MouseCommand.{MouseCommand}
+use Rattle.protocol.specs.declared.StickCommand.{StickCommand}
+use Rattle.protocol.specs.declared.StickCommand.the-variants.{SetEvent, SetInterrogation, ReportSticks, SetMonitoring, SetFire, SetCursor, SticksOff}
+use Rattle.protocol.specs.declared.OtherCommand.{OtherCommand}
+use Rattle.protocol.specs.declared.OtherCommand.the-variants.{Resume, MouseOff, SetClock, ReportClock}
+use Rattle.protocol.specs.declared.Meaning.{Meaning}
+use Rattle.protocol.specs.declared.Meaning.the-variants.{Nothing, Memory, Pause, Reset, OfMouse, OfStick, OfOther, Inquire}
+use Rattle.protocol.specs.Codes.{meaning-of}
 use Rattle.protocol.specs.Settings.{IsSettings}
 use Rattle.protocol.specs.Reading.{IsCommand, OneCommand, AllBytes, Fed, half, whole, feed, command-after}
 use Rattle.protocol.specs.Commands.{executed, sets, stick-sets, other-sets}
@@ -118,20 +125,20 @@ record GoodEffect (σ : Settings) (e : Effect) : Type 0 where
 
 stick-keeps-mode : (c : StickCommand) (ps : List ℕ) (σ : Settings) → stick-sets c ps σ .mouse ≡ σ .mouse
 unfolding stick-sets
-stick-keeps-mode event ps σ = refl
-stick-keeps-mode interrogation ps σ = refl
-stick-keeps-mode report-sticks ps σ = refl
-stick-keeps-mode monitoring ps σ = refl
-stick-keeps-mode fire ps σ = refl
-stick-keeps-mode cursor ps σ = refl
-stick-keeps-mode sticks-off ps σ = refl
+stick-keeps-mode SetEvent ps σ = refl
+stick-keeps-mode SetInterrogation ps σ = refl
+stick-keeps-mode ReportSticks ps σ = refl
+stick-keeps-mode SetMonitoring ps σ = refl
+stick-keeps-mode SetFire ps σ = refl
+stick-keeps-mode SetCursor ps σ = refl
+stick-keeps-mode SticksOff ps σ = refl
 
 module _ (ps : List ℕ) (σ : Settings) (m : Mouse) (k : Sticks) (t : Clock) (gm : GoodMouse false σ m) (gk : GoodSticks (σ .stick) k) (gt : IsClock t) where
-  mouse-effect-is : (c : MouseCommand) → GoodEffect (sets (of-mouse c) ps σ) (mouse-effect c ps σ m k t)
+  mouse-effect-is : (c : MouseCommand) → GoodEffect (sets (OfMouse c) ps σ) (mouse-effect c ps σ m k t)
   unfolding sets mouse-effect
   mouse-effect-is c = record { mouse = mouse.commanded-is c ps σ m gm; sticks = sticks.mouse-commanded-is c ps σ k gk; clock = gt }
 
-  stick-effect-is : (c : StickCommand) → GoodEffect (sets (of-stick c) ps σ) (stick-effect c σ m k t)
+  stick-effect-is : (c : StickCommand) → GoodEffect (sets (OfStick c) ps σ) (stick-effect c σ m k t)
   unfolding sets stick-effect
   stick-effect-is c = record {
     mouse = mouse.same-mode-is σ (stick-sets c ps σ) m (stick-keeps-mode c ps σ) gm;
@@ -139,12 +146,12 @@ module _ (ps : List ℕ) (σ : Settings) (m : Mouse) (k : Sticks) (t : Clock) (g
     clock = gt;
   }
 
-  other-effect-is : (c : OtherCommand) → GoodEffect (sets (of-other c) ps σ) (other-effect c ps m k t)
+  other-effect-is : (c : OtherCommand) → GoodEffect (sets (OfOther c) ps σ) (other-effect c ps m k t)
   unfolding sets other-sets other-effect
-  other-effect-is resume = record { mouse = gm; sticks = gk; clock = gt }
-  other-effect-is mouse-off = record { mouse = mouse.off-is σ (other-sets mouse-off σ) m refl gm; sticks = gk; clock = gt }
-  other-effect-is set-clock = record { mouse = gm; sticks = gk; clock = set-is ps t gt }
-  other-effect-is report-clock = record { mouse = gm; sticks = gk; clock = gt }
+  other-effect-is Resume = record { mouse = gm; sticks = gk; clock = gt }
+  other-effect-is MouseOff = record { mouse = mouse.off-is σ (other-sets MouseOff σ) m refl gm; sticks = gk; clock = gt }
+  other-effect-is SetClock = record { mouse = gm; sticks = gk; clock = set-is ps t gt }
+  other-effect-is ReportClock = record { mouse = gm; sticks = gk; clock = gt }
 
 -- after the resume, the mouse is as it is when output is not paused
 resumed-is : (s : State) → IsState s → GoodMouse false (s .settings) (resumed-mouse s)
@@ -168,11 +175,11 @@ acted-is m ps s g e = whole-of (record {
 
 executes-is : (m : Meaning) (ps : List ℕ) (s : State) → AllBytes ps → executed m ps (s .settings) ≡ true → IsState s → IsState (executes m ps s .state)
 unfolding executes effect sets reset-due
-executes-is nothing ps s b x h =
-    acted-is nothing ps s (h .ranges .settings) (record { mouse = resumed-is s h; sticks = parts-of h .sticks; clock = h .ranges .clock })
-executes-is memory ps s b x h =
-    acted-is memory ps s (h .ranges .settings) (record { mouse = resumed-is s h; sticks = parts-of h .sticks; clock = h .ranges .clock })
-executes-is pause ps s b x h = whole-of (record {
+executes-is Nothing ps s b x h =
+    acted-is Nothing ps s (h .ranges .settings) (record { mouse = resumed-is s h; sticks = parts-of h .sticks; clock = h .ranges .clock })
+executes-is Memory ps s b x h =
+    acted-is Memory ps s (h .ranges .settings) (record { mouse = resumed-is s h; sticks = parts-of h .sticks; clock = h .ranges .clock })
+executes-is Pause ps s b x h = whole-of (record {
   settings = h .ranges .settings;
   command = (no-command-is, no-command-one);
   queue = paused-queue (s .paused) (s .queue) (parts-of h .queue);
@@ -180,7 +187,7 @@ executes-is pause ps s b x h = whole-of (record {
   sticks = parts-of h .sticks;
   clock = h .ranges .clock;
 })
-executes-is reset ps s b x h = whole-of (record {
+executes-is Reset ps s b x h = whole-of (record {
   settings = power-up-is;
   command = (no-command-is, no-command-one);
   queue = empty-is false;
@@ -188,17 +195,17 @@ executes-is reset ps s b x h = whole-of (record {
   sticks = record { ranges = sticks-at.power-is; spelling = sticks-at.power-one };
   clock = h .ranges .clock;
 })
-executes-is (of-mouse c) ps s b x h =
-    acted-is (of-mouse c) ps s (settings-is (of-mouse c) ps (s .settings) b x (h .ranges .settings))
+executes-is (OfMouse c) ps s b x h =
+    acted-is (OfMouse c) ps s (settings-is (OfMouse c) ps (s .settings) b x (h .ranges .settings))
     (mouse-effect-is ps (s .settings) (resumed-mouse s) (s .sticks) (s .clock) (resumed-is s h) (parts-of h .sticks) (h .ranges .clock) c)
-executes-is (of-stick c) ps s b x h =
-    acted-is (of-stick c) ps s (settings-is (of-stick c) ps (s .settings) b x (h .ranges .settings))
+executes-is (OfStick c) ps s b x h =
+    acted-is (OfStick c) ps s (settings-is (OfStick c) ps (s .settings) b x (h .ranges .settings))
     (stick-effect-is ps (s .settings) (resumed-mouse s) (s .sticks) (s .clock) (resumed-is s h) (parts-of h .sticks) (h .ranges .clock) c)
-executes-is (of-other c) ps s b x h =
-    acted-is (of-other c) ps s (settings-is (of-other c) ps (s .settings) b x (h .ranges .settings))
+executes-is (OfOther c) ps s b x h =
+    acted-is (OfOther c) ps s (settings-is (OfOther c) ps (s .settings) b x (h .ranges .settings))
     (other-effect-is ps (s .settings) (resumed-mouse s) (s .sticks) (s .clock) (resumed-is s h) (parts-of h .sticks) (h .ranges .clock) c)
-executes-is (inquire q) ps s b x h =
-    acted-is (inquire q) ps s (h .ranges .settings) (record { mouse = resumed-is s h; sticks = parts-of h .sticks; clock = h .ranges .clock })
+executes-is (Inquire q) ps s b x h =
+    acted-is (Inquire q) ps s (h .ranges .settings) (record { mouse = resumed-is s h; sticks = parts-of h .sticks; clock = h .ranges .clock })
 
 reading-is : (f : Fed) (s : State) → Fine f → IsState s → IsState (reading f s)
 reading-is f s g h =

@@ -6,7 +6,13 @@ use Rattle.output.specs.Packets.{Packet, version, bytes}
 use Rattle.clock.specs.declared.Clock.{Clock}
 use Rattle.clock.specs.Setting.{set-to, report}
 use Rattle.protocol.specs.declared.Settings.{Settings}
-use Rattle.protocol.specs.Codes.{MouseCommand, StickCommand, OtherCommand, resume, mouse-off, set-clock, report-clock, Meaning, nothing, memory, pause, reset, of-mouse, of-stick, of-other, inquire, meaning-of}
+use Rattle.protocol.specs.declared.MouseCommand.{MouseCommand}
+use Rattle.protocol.specs.declared.StickCommand.{StickCommand}
+use Rattle.protocol.specs.declared.OtherCommand.{OtherCommand}
+use Rattle.protocol.specs.declared.OtherCommand.the-variants.{Resume, MouseOff, SetClock, ReportClock}
+use Rattle.protocol.specs.declared.Meaning.{Meaning}
+use Rattle.protocol.specs.declared.Meaning.the-variants.{Nothing, Memory, Pause, Reset, OfMouse, OfStick, OfOther, Inquire}
+use Rattle.protocol.specs.Codes.{meaning-of}
 use Rattle.protocol.specs.Reading.{Fed, half, whole, feed, command-after, no-command}
 use Rattle.protocol.specs.Commands.{executed, sets, settings-after}
 use Rattle.protocol.specs.Replies.{reply}
@@ -59,21 +65,21 @@ stick-effect c σ m k t = record {
 }
 
 unfoldable pub other-effect : OtherCommand → List ℕ → Mouse → Sticks → Clock → Effect
-other-effect resume ps m k t = record { packets = []; mouse = m; sticks = k; clock = t }
-other-effect mouse-off ps m k t = record { packets = []; mouse = switched-off m; sticks = k; clock = t }
-other-effect set-clock ps m k t = record { packets = []; mouse = m; sticks = k; clock = set-to ps t }
-other-effect report-clock ps m k t = record { packets = report t ∷ []; mouse = m; sticks = k; clock = t }
+other-effect Resume ps m k t = record { packets = []; mouse = m; sticks = k; clock = t }
+other-effect MouseOff ps m k t = record { packets = []; mouse = switched-off m; sticks = k; clock = t }
+other-effect SetClock ps m k t = record { packets = []; mouse = m; sticks = k; clock = set-to ps t }
+other-effect ReportClock ps m k t = record { packets = report t ∷ []; mouse = m; sticks = k; clock = t }
 
 -- the commands that resume, acting on the parts as the resume leaves them; settings are those from before the command
 unfoldable pub effect : Meaning → List ℕ → Settings → Mouse → Sticks → Clock → Effect
-effect nothing ps σ m k t = record { packets = []; mouse = m; sticks = k; clock = t }
-effect memory ps σ m k t = record { packets = []; mouse = m; sticks = k; clock = t }
-effect pause ps σ m k t = record { packets = []; mouse = m; sticks = k; clock = t }
-effect reset ps σ m k t = record { packets = []; mouse = m; sticks = k; clock = t }
-effect (of-mouse c) ps σ m k t = mouse-effect c ps σ m k t
-effect (of-stick c) ps σ m k t = stick-effect c σ m k t
-effect (of-other c) ps σ m k t = other-effect c ps m k t
-effect (inquire q) ps σ m k t = record { packets = reply q σ ∷ []; mouse = m; sticks = k; clock = t }
+effect Nothing ps σ m k t = record { packets = []; mouse = m; sticks = k; clock = t }
+effect Memory ps σ m k t = record { packets = []; mouse = m; sticks = k; clock = t }
+effect Pause ps σ m k t = record { packets = []; mouse = m; sticks = k; clock = t }
+effect Reset ps σ m k t = record { packets = []; mouse = m; sticks = k; clock = t }
+effect (OfMouse c) ps σ m k t = mouse-effect c ps σ m k t
+effect (OfStick c) ps σ m k t = stick-effect c σ m k t
+effect (OfOther c) ps σ m k t = other-effect c ps m k t
+effect (Inquire q) ps σ m k t = record { packets = reply q σ ∷ []; mouse = m; sticks = k; clock = t }
 
 -- "first resumes: the queue is written, then held motion that is due (if the mouse is live)": the motion's packets, and the mouse afterwards
 abbrev pub resumed-packets : State → List Packet
@@ -126,14 +132,14 @@ reset-due s = record {
 
 -- an executed command: "other than 0x13 and reset, first resumes"
 unfoldable pub executes : Meaning → List ℕ → State → Due
-executes nothing ps s = acted nothing ps s
-executes memory ps s = acted memory ps s
-executes pause ps s = silent (paused-now s)
-executes reset ps s = reset-due s
-executes (of-mouse c) ps s = acted (of-mouse c) ps s
-executes (of-stick c) ps s = acted (of-stick c) ps s
-executes (of-other c) ps s = acted (of-other c) ps s
-executes (inquire q) ps s = acted (inquire q) ps s
+executes Nothing ps s = acted Nothing ps s
+executes Memory ps s = acted Memory ps s
+executes Pause ps s = silent (paused-now s)
+executes Reset ps s = reset-due s
+executes (OfMouse c) ps s = acted (OfMouse c) ps s
+executes (OfStick c) ps s = acted (OfStick c) ps s
+executes (OfOther c) ps s = acted (OfOther c) ps s
+executes (Inquire q) ps s = acted (Inquire q) ps s
 
 -- the state with another half-received command
 abbrev pub reading : Fed → State → State
@@ -155,14 +161,14 @@ host-due (whole code ps) s =
 
 -- "0x80 then 0x01 resets": the byte that came completes a reset that is executed
 abbrev pub is-reset : Meaning → Bool
-is-reset nothing = false
-is-reset memory = false
-is-reset pause = false
-is-reset reset = true
-is-reset (of-mouse c) = false
-is-reset (of-stick c) = false
-is-reset (of-other c) = false
-is-reset (inquire q) = false
+is-reset Nothing = false
+is-reset Memory = false
+is-reset Pause = false
+is-reset Reset = true
+is-reset (OfMouse c) = false
+is-reset (OfStick c) = false
+is-reset (OfOther c) = false
+is-reset (Inquire q) = false
 
 unfoldable pub resets : Fed → State → Bool
 resets (half c) s = false

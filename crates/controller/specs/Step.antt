@@ -104,17 +104,25 @@ pub record Out : Type 0 where
   pub dropped : List ℕ
   pub state : State
 
+-- the table's numbers
+abbrev pub number : Answer → ℕ
+number Taken = 0
+number OutOfRange = 1
+number QueueFull = 2
+number MotionFull = 3
+number BufferShort = 4
+
 -- "Every number but 0, later ones too, reports 0 bytes written and leaves state and buffer the same."
-abbrev pub refused : ℕ → State → Out
-refused n s = record { answer = n; written = []; packets = []; dropped = []; state = s }
+abbrev pub refused : Answer → State → Out
+refused a s = record { answer = number a; written = []; packets = []; dropped = []; state = s }
 
 -- For each case of the answer, this paper's number and values: s is the state that went in, d what the input leads to.
 unfoldable pub told : Answer → State → Due → Out
-told Taken s d = record { answer = 0; written = d .written; packets = d .packets; dropped = d .dropped; state = d .state }
-told OutOfRange s d = refused 1 s
-told QueueFull s d = refused 2 s
-told MotionFull s d = refused 3 s
-told BufferShort s d = refused 4 s
+told Taken s d = record { answer = number Taken; written = d .written; packets = d .packets; dropped = d .dropped; state = d .state }
+told OutOfRange s d = refused OutOfRange s
+told QueueFull s d = refused QueueFull s
+told MotionFull s d = refused MotionFull s
+told BufferShort s d = refused BufferShort s
 
 -- The step: a state, an input and the length of the lent buffer.
 unfoldable pub step : State → Input → ℕ → Out

@@ -11,7 +11,9 @@ use lib.Seq.{drop-at}
 use Rattle.output.specs.Packets.{bytes-of, bytes}
 use Rattle.output.proofs.Packets.{bytes-append}
 use Rattle.protocol.specs.declared.Settings.{Settings}
-use Rattle.protocol.specs.Codes.{Inquiry, inquire, meaning-of}
+use Rattle.protocol.specs.declared.Inquiry.{Inquiry}
+use Rattle.protocol.specs.declared.Meaning.the-variants.{Inquire}
+use Rattle.protocol.specs.Codes.{meaning-of}
 use Rattle.protocol.specs.Reading.{Between, feed, no-command, whole, zeros}
 use Rattle.protocol.specs.Settings.{monitors}
 use Rattle.protocol.specs.Commands.{executed}
@@ -36,7 +38,7 @@ last-8-append : (xs ys : List ℕ) → length ys ≡ 8 → last-8 (xs ++ ys) ≡
 last-8-append xs ys h = drop-at xs ys (length (xs ++ ys) - 8) (omega (arith, length-append xs ys))
 
 -- what is due by an inquiry ends in its reply
-whole-written : (s : State) (q : Inquiry) (code : ℕ) → meaning-of code ≡ inquire q → monitors (s .settings .stick) ≡ false →
+whole-written : (s : State) (q : Inquiry) (code : ℕ) → meaning-of code ≡ Inquire q → monitors (s .settings .stick) ≡ false →
     host-due (whole code zeros) s .written ≡ contents (s .queue) ++ bytes (resumed-packets s ++ (reply q (s .settings) ∷ []))
 unfolding host-due executes acted effect executed
 whole-written s q code e out = rw (e, out)

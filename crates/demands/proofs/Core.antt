@@ -4,7 +4,9 @@ use Prim.Native.Nat.{ℕ}
 use mathlib.Core.Path.{_≡_, refl, sym, ap, _∙_}
 use mathlib.Core.Bool.{Bool, true, false, cond}
 use mathlib.Core.List.{List, [], _∷_, _++_, map}
-use Rattle.protocol.specs.Codes.{Meaning, nothing, memory, pause, reset, of-mouse, of-stick, of-other, inquire, meaning-of}
+use Rattle.protocol.specs.declared.Meaning.{Meaning}
+use Rattle.protocol.specs.declared.Meaning.the-variants.{Nothing, Memory, Pause, Reset, OfMouse, OfStick, OfOther, Inquire}
+use Rattle.protocol.specs.Codes.{meaning-of}
 use Rattle.protocol.specs.Reading.{Fed, half, whole, feed, command-after}
 use Rattle.protocol.specs.Commands.{executed, sets, settings-then, settings-after}
 use Rattle.protocol.proofs.Core.{Core, eats, eats-append}
@@ -37,14 +39,14 @@ fed f s = record { settings = settings-after (s .settings) f; command = command-
 executed-core : (m : Meaning) (code : ℕ) (ps : List ℕ) (s : State) →
     core (executes m ps s .state) ≡ record { settings = sets m ps (s .settings); command = command-after (whole code ps) }
 unfolding executes acted reset-due sets command-after
-executed-core nothing code ps s = refl
-executed-core memory code ps s = refl
-executed-core pause code ps s = refl
-executed-core reset code ps s = refl
-executed-core (of-mouse m) code ps s = refl
-executed-core (of-stick k) code ps s = refl
-executed-core (of-other o) code ps s = refl
-executed-core (inquire q) code ps s = refl
+executed-core Nothing code ps s = refl
+executed-core Memory code ps s = refl
+executed-core Pause code ps s = refl
+executed-core Reset code ps s = refl
+executed-core (OfMouse m) code ps s = refl
+executed-core (OfStick k) code ps s = refl
+executed-core (OfOther o) code ps s = refl
+executed-core (Inquire q) code ps s = refl
 
 -- a host byte, if it is taken
 host-core : (f : Fed) (s : State) → core (host-due f s .state) ≡ fed f s

@@ -13,10 +13,10 @@ use Rattle.controller.specs.declared.State.{State}
 use Rattle.controller.specs.declared.Answer.{Answer}
 use Rattle.controller.specs.declared.Answer.the-variants.{Taken, OutOfRange, QueueFull, MotionFull, BufferShort}
 use Rattle.controller.specs.Host.{Due}
-use Rattle.controller.specs.Step.{Did, due, told, verdict, step}
+use Rattle.controller.specs.Step.{number, Did, due, told, verdict, step}
 use Rattle.controller.specs.Sequences.{Turn, done, after, history}
 use Rattle.demands.specs.Demand3.{Seen, seen, seen-in, Asking, SendingBack, Demand3}
-use Rattle.demands.specs.Calls.{Call, Calls, number, seen-of, Demand3-of-calls}
+use Rattle.demands.specs.Calls.{Call, Calls, seen-of, Demand3-of-calls}
 use Rattle.demands.proofs.Core.{core, run-core}
 use Rattle.demands.proofs.Asking.{kept-is}
 

@@ -15,7 +15,11 @@ use Rattle.protocol.specs.declared.Settings.{Settings}
 use Rattle.protocol.specs.declared.MouseMode.the-variants.{Absolute, Keycode}
 use Rattle.protocol.specs.declared.StickMode.the-variants.{Interrogation, Fire, Cursor}
 use Rattle.protocol.specs.declared.Role.the-variants.{ForMouse, ForJoystick}
-use Rattle.protocol.specs.Codes.{Inquiry, ask-action, ask-mouse, ask-threshold, ask-scale, ask-origin, ask-mouse-off, ask-stick, ask-sticks-off, Meaning, nothing, memory, pause, reset, of-mouse, of-stick, of-other, inquire, meaning-of}
+use Rattle.protocol.specs.declared.Inquiry.{Inquiry}
+use Rattle.protocol.specs.declared.Inquiry.the-variants.{AskAction, AskMouse, AskThreshold, AskScale, AskOrigin, AskMouseOff, AskStick, AskSticksOff}
+use Rattle.protocol.specs.declared.Meaning.{Meaning}
+use Rattle.protocol.specs.declared.Meaning.the-variants.{Nothing, Memory, Pause, Reset, OfMouse, OfStick, OfOther, Inquire}
+use Rattle.protocol.specs.Codes.{meaning-of}
 use Rattle.protocol.specs.Replies.{code-of, kept-bytes, in-order}
 use Rattle.protocol.proofs.PutBack.{asks}
 use Rattle.clock.specs.Clock.{first-day}
@@ -76,15 +80,15 @@ abbrev answers : List Seen → List ℕ
 answers h = map (λ (d : Seen). d .answer) h
 
 -- bytes that pass the test are of no other command
-passes : (m : Meaning) → asks m ≡ true → ((q : Inquiry) × (m ≡ inquire q)) ⊎ (m ≡ nothing)
-passes nothing h = inr refl
-passes memory h = absurd (true≢false (sym h))
-passes pause h = absurd (true≢false (sym h))
-passes reset h = absurd (true≢false (sym h))
-passes (of-mouse m) h = absurd (true≢false (sym h))
-passes (of-stick k) h = absurd (true≢false (sym h))
-passes (of-other o) h = absurd (true≢false (sym h))
-passes (inquire q) h = inl (q, refl)
+passes : (m : Meaning) → asks m ≡ true → ((q : Inquiry) × (m ≡ Inquire q)) ⊎ (m ≡ Nothing)
+passes Nothing h = inr refl
+passes Memory h = absurd (true≢false (sym h))
+passes Pause h = absurd (true≢false (sym h))
+passes Reset h = absurd (true≢false (sym h))
+passes (OfMouse m) h = absurd (true≢false (sym h))
+passes (OfStick k) h = absurd (true≢false (sym h))
+passes (OfOther o) h = absurd (true≢false (sym h))
+passes (Inquire q) h = inl (q, refl)
 
 all-pass : List ℕ → Bool
 all-pass [] = true
@@ -165,9 +169,9 @@ mouse-start-reached = refl
 -- command, that inquiry, motion, and the last inquiry; a key out of range is refused; a code that does nothing and another inquiry are taken.
 unfoldable pub mouse-asking : List Turn
 mouse-asking =
-    given (Byte 0x08) 1 ∷ ask ask-action 17 ∷ ask ask-action 18 ∷ ask ask-mouse 8 ∷ given (Key 0x1E true) 1 ∷ given (Byte 0xFF) 0
-    ∷ ask ask-threshold 8 ∷ given (Key 0x73 true) 8 ∷ ask ask-scale 8 ∷ given (Byte 0x89) 8 ∷ ask ask-origin 8 ∷ given (Move (pos 9) (pos 0)) 3
-    ∷ ask ask-mouse-off 8 ∷ given Tick 0 ∷ ask ask-stick 9 ∷ ask ask-sticks-off 7 ∷ ask ask-sticks-off 8 ∷ []
+    given (Byte 0x08) 1 ∷ ask AskAction 17 ∷ ask AskAction 18 ∷ ask AskMouse 8 ∷ given (Key 0x1E true) 1 ∷ given (Byte 0xFF) 0
+    ∷ ask AskThreshold 8 ∷ given (Key 0x73 true) 8 ∷ ask AskScale 8 ∷ given (Byte 0x89) 8 ∷ ask AskOrigin 8 ∷ given (Move (pos 9) (pos 0)) 3
+    ∷ ask AskMouseOff 8 ∷ given Tick 0 ∷ ask AskStick 9 ∷ ask AskSticksOff 7 ∷ ask AskSticksOff 8 ∷ []
 
 mouse-answers : answers (seen-in mouse-start mouse-asking) ≡ 4 ∷ 4 ∷ 0 ∷ 0 ∷ 0 ∷ 0 ∷ 0 ∷ 1 ∷ 0 ∷ 0 ∷ 0 ∷ 4 ∷ 0 ∷ 0 ∷ 0 ∷ 4 ∷ 0 ∷ []
 unfolding mouse-start mouse-asking rules
@@ -175,14 +179,14 @@ mouse-answers = refl
 
 mouse-replies : (q : Inquiry) → Kept (seen-in mouse-start mouse-asking) q (kept-bytes q mouse-settings)
 unfolding mouse-start mouse-asking rules
-mouse-replies ask-action = kept-at 2 refl refl refl refl
-mouse-replies ask-mouse = kept-at 3 refl refl refl refl
-mouse-replies ask-threshold = kept-at 6 refl refl refl refl
-mouse-replies ask-scale = kept-at 8 refl refl refl refl
-mouse-replies ask-origin = kept-at 10 refl refl refl refl
-mouse-replies ask-mouse-off = kept-at 12 refl refl refl refl
-mouse-replies ask-stick = kept-at 14 refl refl refl refl
-mouse-replies ask-sticks-off = kept-at 16 refl refl refl refl
+mouse-replies AskAction = kept-at 2 refl refl refl refl
+mouse-replies AskMouse = kept-at 3 refl refl refl refl
+mouse-replies AskThreshold = kept-at 6 refl refl refl refl
+mouse-replies AskScale = kept-at 8 refl refl refl refl
+mouse-replies AskOrigin = kept-at 10 refl refl refl refl
+mouse-replies AskMouseOff = kept-at 12 refl refl refl refl
+mouse-replies AskStick = kept-at 14 refl refl refl refl
+mouse-replies AskSticksOff = kept-at 16 refl refl refl refl
 
 -- the eight are asked, port 0 a mouse
 pub mouse-asked : Asking mouse-start (seen-in mouse-start mouse-asking) (λ q. kept-bytes q mouse-settings)
@@ -270,19 +274,19 @@ joystick-start-reached = refl
 -- one of the eight is asked twice, and stick and trigger events come between
 unfoldable pub joystick-asking : List Turn
 joystick-asking =
-    ask ask-sticks-off 8 ∷ ask ask-stick 8 ∷ given (Joystick (pos 0) (pos 1) (pos 1)) 8 ∷ ask ask-stick 8 ∷ ask ask-mouse-off 8 ∷ ask ask-origin 8
-    ∷ given (Joystick (pos 0) (pos 16) (pos 1)) 8 ∷ ask ask-scale 8 ∷ ask ask-threshold 8 ∷ ask ask-mouse 8 ∷ ask ask-action 8 ∷ []
+    ask AskSticksOff 8 ∷ ask AskStick 8 ∷ given (Joystick (pos 0) (pos 1) (pos 1)) 8 ∷ ask AskStick 8 ∷ ask AskMouseOff 8 ∷ ask AskOrigin 8
+    ∷ given (Joystick (pos 0) (pos 16) (pos 1)) 8 ∷ ask AskScale 8 ∷ ask AskThreshold 8 ∷ ask AskMouse 8 ∷ ask AskAction 8 ∷ []
 
 joystick-replies : (q : Inquiry) → Kept (seen-in joystick-start joystick-asking) q (kept-bytes q joystick-settings)
 unfolding joystick-start joystick-asking rules
-joystick-replies ask-action = kept-at 10 refl refl refl refl
-joystick-replies ask-mouse = kept-at 9 refl refl refl refl
-joystick-replies ask-threshold = kept-at 8 refl refl refl refl
-joystick-replies ask-scale = kept-at 7 refl refl refl refl
-joystick-replies ask-origin = kept-at 5 refl refl refl refl
-joystick-replies ask-mouse-off = kept-at 4 refl refl refl refl
-joystick-replies ask-stick = kept-at 3 refl refl refl refl
-joystick-replies ask-sticks-off = kept-at 0 refl refl refl refl
+joystick-replies AskAction = kept-at 10 refl refl refl refl
+joystick-replies AskMouse = kept-at 9 refl refl refl refl
+joystick-replies AskThreshold = kept-at 8 refl refl refl refl
+joystick-replies AskScale = kept-at 7 refl refl refl refl
+joystick-replies AskOrigin = kept-at 5 refl refl refl refl
+joystick-replies AskMouseOff = kept-at 4 refl refl refl refl
+joystick-replies AskStick = kept-at 3 refl refl refl refl
+joystick-replies AskSticksOff = kept-at 0 refl refl refl refl
 
 -- the eight are asked, port 0 a joystick
 pub joystick-asked : Asking joystick-start (seen-in joystick-start joystick-asking) (λ q. kept-bytes q joystick-settings)

@@ -3,15 +3,13 @@ use Prim.Native.Nat.{ℕ}
 use mathlib.Core.Path.{_≡_}
 use mathlib.Core.List.{List, [], _∷_, map}
 use lib.ListN.{take}
-use Rattle.protocol.specs.Codes.{Inquiry}
+use Rattle.protocol.specs.declared.Inquiry.{Inquiry}
 use Rattle.protocol.specs.Replies.{in-order}
 use Rattle.controller.specs.declared.State.{State}
 use Rattle.controller.specs.declared.Input.{Input}
 use Rattle.controller.specs.declared.Stepped.{Stepped}
-use Rattle.controller.specs.declared.Answer.{Answer}
-use Rattle.controller.specs.declared.Answer.the-variants.{Taken, OutOfRange, QueueFull, MotionFull, BufferShort}
 use Rattle.controller.specs.State.{IsState}
-use Rattle.controller.specs.Step.{Did}
+use Rattle.controller.specs.Step.{number, Did}
 use Rattle.demands.specs.Demand3.{Seen, Asking, SendingBack}
 
 -- one call: the input, the lent buffer before it, what it handed back, and the buffer after it
@@ -25,14 +23,6 @@ pub record Call : Type 0 where
 abbrev pub Calls : State → List Call → State → Type 0
 Calls s [] t = t ≡ s
 Calls s (c ∷ cs) t = Did s (c .input) (c .before) (c .result) (c .buffer) × Calls (c .result .state) cs t
-
--- the number of an answer
-abbrev pub number : Answer → ℕ
-number Taken = 0
-number OutOfRange = 1
-number QueueFull = 2
-number MotionFull = 3
-number BufferShort = 4
 
 -- what a call came to, read off its result and the buffer
 abbrev pub seen-of : Call → Seen

@@ -5,7 +5,9 @@ use mathlib.Core.Logic.{_⊎_}
 use mathlib.Core.Bool.{false}
 use mathlib.Core.List.{List, [], _∷_, _++_, map, List·Memᴰ}
 use lib.ListN.{length, drop}
-use Rattle.protocol.specs.Codes.{Inquiry, nothing, inquire, line}
+use Rattle.protocol.specs.declared.Inquiry.{Inquiry}
+use Rattle.protocol.specs.declared.Meaning.the-variants.{Nothing, Inquire}
+use Rattle.protocol.specs.Codes.{line}
 use Rattle.protocol.specs.Reading.{Between}
 use Rattle.protocol.specs.Settings.{monitors}
 use Rattle.protocol.specs.Replies.{code-of, in-order}
@@ -37,7 +39,7 @@ taken (d ∷ ds) = byte-taken (d .input) (d .answer) ++ taken ds
 -- "no byte of another command": the byte is an inquiry, or a code that does nothing and so is no command's.
 -- The eight have six companions (89 8A 90 95 96 99); that those may be taken as well is more than the demand asks.
 abbrev pub NoOther : ℕ → Type 0
-NoOther b = ((q : Inquiry) × (line b .meaning ≡ inquire q)) ⊎ (line b .meaning ≡ nothing)
+NoOther b = ((q : Inquiry) × (line b .meaning ≡ Inquire q)) ⊎ (line b .meaning ≡ Nothing)
 
 -- "A reply is the last 8 bytes written by the step that takes its inquiry"
 abbrev pub last-8 : List ℕ → List ℕ

@@ -19,7 +19,8 @@ use Rattle.protocol.specs.declared.Axes.{Axes}
 use Rattle.protocol.specs.declared.MouseMode.{MouseMode}
 use Rattle.protocol.specs.declared.MouseMode.the-variants.{Relative, Absolute, Keycode}
 use Rattle.protocol.specs.declared.Settings.{Settings}
-use Rattle.protocol.specs.Codes.{MouseCommand, button-action, relative, absolute, keycode, threshold, scale, report-position, load-position, origin-bottom, origin-top}
+use Rattle.protocol.specs.declared.MouseCommand.{MouseCommand}
+use Rattle.protocol.specs.declared.MouseCommand.the-variants.{SetAction, SetRelative, SetAbsolute, SetKeycode, SetThreshold, SetScale, ReportPosition, LoadPosition, OriginBottom, OriginTop}
 use Rattle.protocol.specs.Settings.{acts-as}
 use Rattle.mouse.specs.declared.Mouse.{Mouse}
 use Rattle.mouse.specs.declared.Side.{Side}
@@ -152,13 +153,13 @@ presses-length paused σ side down m g =
 -- What a command of the mouse sends of its own.
 pub commanded-length : (c : MouseCommand) (ps : List ℕ) (mode : MouseMode) (m : Mouse) → length (bytes (commanded c ps mode m .packets)) ≤ 6
 unfolding commanded report
-commanded-length button-action ps mode m = omega arith
-commanded-length relative ps mode m = omega arith
-commanded-length absolute ps mode m = omega arith
-commanded-length keycode ps mode m = omega arith
-commanded-length threshold ps mode m = omega arith
-commanded-length scale ps mode m = omega arith
-commanded-length report-position ps mode m = omega arith
-commanded-length load-position ps mode m = omega arith
-commanded-length origin-bottom ps mode m = omega arith
-commanded-length origin-top ps mode m = omega arith
+commanded-length SetAction ps mode m = omega arith
+commanded-length SetRelative ps mode m = omega arith
+commanded-length SetAbsolute ps mode m = omega arith
+commanded-length SetKeycode ps mode m = omega arith
+commanded-length SetThreshold ps mode m = omega arith
+commanded-length SetScale ps mode m = omega arith
+commanded-length ReportPosition ps mode m = omega arith
+commanded-length LoadPosition ps mode m = omega arith
+commanded-length OriginBottom ps mode m = omega arith
+commanded-length OriginTop ps mode m = omega arith

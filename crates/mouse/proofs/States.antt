@@ -18,7 +18,8 @@ use Rattle.protocol.specs.declared.Point.{Point}
 use Rattle.protocol.specs.declared.MouseMode.{MouseMode}
 use Rattle.protocol.specs.declared.MouseMode.the-variants.{Relative, Absolute, Keycode}
 use Rattle.protocol.specs.declared.Settings.{Settings}
-use Rattle.protocol.specs.Codes.{MouseCommand, button-action, relative, absolute, keycode, threshold, scale, report-position, load-position, origin-bottom, origin-top}
+use Rattle.protocol.specs.declared.MouseCommand.{MouseCommand}
+use Rattle.protocol.specs.declared.MouseCommand.the-variants.{SetAction, SetRelative, SetAbsolute, SetKeycode, SetThreshold, SetScale, ReportPosition, LoadPosition, OriginBottom, OriginTop}
 use Rattle.protocol.specs.Settings.{IsAxes, IsSettings, IsMouseMode, is-absolute, acts-as, power-up}
 use Rattle.protocol.specs.Commands.{mouse-sets}
 use Rattle.mouse.specs.declared.Mouse.{Mouse}
@@ -288,20 +289,20 @@ anew w = record { x = omega arith; y = omega arith; held-x = omega arith; held-y
 pub commanded-is : (c : MouseCommand) (ps : List ℕ) (σ : Settings) (m : Mouse) → GoodMouse false σ m →
     GoodMouse false (mouse-sets c ps σ) (commanded c ps (σ .mouse) m .mouse)
 unfolding commanded mouse-sets held-most
-commanded-is button-action ps σ m g = same-mode-is σ (mouse-sets button-action ps σ) m refl g
-commanded-is relative ps σ m g = good (anew (within g))
-commanded-is absolute ps σ m g = good (anew (within g))
-commanded-is keycode ps σ m g = good (anew (within g))
-commanded-is threshold ps σ m g = same-mode-is σ (mouse-sets threshold ps σ) m refl g
-commanded-is scale ps σ m g = same-mode-is σ (mouse-sets scale ps σ) m refl g
-commanded-is report-position ps σ m g =
+commanded-is SetAction ps σ m g = same-mode-is σ (mouse-sets SetAction ps σ) m refl g
+commanded-is SetRelative ps σ m g = good (anew (within g))
+commanded-is SetAbsolute ps σ m g = good (anew (within g))
+commanded-is SetKeycode ps σ m g = good (anew (within g))
+commanded-is SetThreshold ps σ m g = same-mode-is σ (mouse-sets SetThreshold ps σ) m refl g
+commanded-is SetScale ps σ m g = same-mode-is σ (mouse-sets SetScale ps σ) m refl g
+commanded-is ReportPosition ps σ m g =
     let w = within g in
     good (record { x = w .x; y = w .y; held-x = w .held-x; held-y = w .held-y; one-x = w .one-x; one-y = w .one-y })
-commanded-is load-position ps σ m g =
+commanded-is LoadPosition ps σ m g =
     let w = within g in
     good (record { x = omega arith; y = omega arith; held-x = w .held-x; held-y = w .held-y; one-x = w .one-x; one-y = w .one-y })
-commanded-is origin-bottom ps σ m g = same-mode-is σ (mouse-sets origin-bottom ps σ) m refl g
-commanded-is origin-top ps σ m g = same-mode-is σ (mouse-sets origin-top ps σ) m refl g
+commanded-is OriginBottom ps σ m g = same-mode-is σ (mouse-sets OriginBottom ps σ) m refl g
+commanded-is OriginTop ps σ m g = same-mode-is σ (mouse-sets OriginTop ps σ) m refl g
 
 -- 0x12, after the resume; it leaves the mouse's mode.
 pub off-is : (σ τ : Settings) (m : Mouse) → τ .mouse ≡ σ .mouse → GoodMouse false σ m → GoodMouse false τ (switched-off m)

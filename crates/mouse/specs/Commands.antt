@@ -4,7 +4,8 @@ use mathlib.Core.List.{List, [], _∷_}
 use Rattle.motion.specs.Motion.{at-rest}
 use Rattle.protocol.specs.declared.Point.{Point}
 use Rattle.protocol.specs.declared.MouseMode.{MouseMode}
-use Rattle.protocol.specs.Codes.{MouseCommand, button-action, relative, absolute, keycode, threshold, scale, report-position, load-position, origin-bottom, origin-top}
+use Rattle.protocol.specs.declared.MouseCommand.{MouseCommand}
+use Rattle.protocol.specs.declared.MouseCommand.the-variants.{SetAction, SetRelative, SetAbsolute, SetKeycode, SetThreshold, SetScale, ReportPosition, LoadPosition, OriginBottom, OriginTop}
 use Rattle.protocol.specs.Commands.{point-at}
 use Rattle.mouse.specs.declared.Mouse.{Mouse}
 use Rattle.mouse.specs.Mouse.{origin, maximum-of, no-latches, with-place, with-held, with-latches}
@@ -20,16 +21,16 @@ loaded maximum ps m = with-place (record { x = min (maximum .x) (point-at 1 ps .
 
 -- "0x0D sends 0xF7, ... and clears the latches"
 unfoldable pub commanded : MouseCommand → List ℕ → MouseMode → Mouse → MouseDue
-commanded button-action ps mode m = quiet m
-commanded relative ps mode m = quiet (started-anew m)
-commanded absolute ps mode m = quiet (started-anew m)
-commanded keycode ps mode m = quiet (started-anew m)
-commanded threshold ps mode m = quiet m
-commanded scale ps mode m = quiet m
-commanded report-position ps mode m = record { packets = report m ∷ []; mouse = with-latches no-latches m }
-commanded load-position ps mode m = quiet (loaded (maximum-of mode) ps m)
-commanded origin-bottom ps mode m = quiet m
-commanded origin-top ps mode m = quiet m
+commanded SetAction ps mode m = quiet m
+commanded SetRelative ps mode m = quiet (started-anew m)
+commanded SetAbsolute ps mode m = quiet (started-anew m)
+commanded SetKeycode ps mode m = quiet (started-anew m)
+commanded SetThreshold ps mode m = quiet m
+commanded SetScale ps mode m = quiet m
+commanded ReportPosition ps mode m = record { packets = report m ∷ []; mouse = with-latches no-latches m }
+commanded LoadPosition ps mode m = quiet (loaded (maximum-of mode) ps m)
+commanded OriginBottom ps mode m = quiet m
+commanded OriginTop ps mode m = quiet m
 
 -- "0x12 turns the mouse off and clears held motion."
 abbrev pub switched-off : Mouse → Mouse

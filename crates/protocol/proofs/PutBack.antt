@@ -16,7 +16,11 @@ use Rattle.protocol.specs.declared.MouseMode.the-variants.{Relative, Abs
 use Rattle.protocol.specs.declared.Role.{Role}
 use Rattle.protocol.specs.declared.Role.the-variants.{ForMouse, ForJoystick}
 use Rattle.protocol.specs.declared.Settings.{Settings}
-use Rattle.protocol.specs.Codes.{Inquiry, ask-action, ask-mouse, ask-threshold, ask-scale, ask-origin, ask-mouse-off, ask-stick, ask-sticks-off, entry, Meaning, nothing, memory, pause, reset, of-mouse, of-stick, of-other, inquire, table, find, line, parameters-of, meaning-of}
+use Rattle.protocol.specs.declared.Inquiry.{Inquiry}
+use Rattle.protocol.specs.declared.Inquiry.the-variants.{AskAction, AskMouse, AskThreshold, AskScale, AskOrigin, AskMouseOff, AskStick, AskSticksOff}
+use Rattle.protocol.specs.declared.Meaning.{Meaning}
+use Rattle.protocol.specs.declared.Meaning.the-variants.{Nothing, Memory, Pause, Reset, OfMouse, OfStick, OfOther, Inquire}
+use Rattle.protocol.specs.Codes.{entry, table, find, line, parameters-of, meaning-of}
 use Rattle.protocol.specs.Reading.{zeros, no-command, Between, whole, begin, feed, command-after}
 use Rattle.protocol.specs.Settings.{most-action, monitors}
 use Rattle.protocol.specs.Commands.{executed, leave-monitoring, with-action, with-threshold, with-scale, with-origin, with-mouse, without-mouse, with-stick, without-sticks, sets, settings-then, settings-after}
@@ -61,10 +65,10 @@ same τ p q s r = λ i. record {
 -- what the replies of the mouse put back, and those of the sticks
 abbrev mouse-part : Settings → Settings → Settings
 mouse-part τ σ =
-    restored ask-mouse-off τ (restored ask-origin τ (restored ask-scale τ (restored ask-threshold τ (restored ask-mouse τ (restored ask-action τ σ)))))
+    restored AskMouseOff τ (restored AskOrigin τ (restored AskScale τ (restored AskThreshold τ (restored AskMouse τ (restored AskAction τ σ)))))
 
 abbrev sticks-part : Settings → Settings → Settings
-sticks-part τ σ = restored ask-sticks-off τ (restored ask-stick τ σ)
+sticks-part τ σ = restored AskSticksOff τ (restored AskStick τ σ)
 
 module _ (τ σ : Settings) (range : τ .action ≤ most-action) where
   sent-mouse : eats (at-rest σ) (in-order ForMouse (λ q. kept-bytes q τ)) ≡ at-rest (mouse-part τ (sticks-part τ σ))
@@ -113,27 +117,27 @@ put-back τ c range out between =
     from-between c (in-order (τ .port0) (λ q. kept-bytes q τ)) between ∙ sent (τ .port0) τ (c .settings) refl range out
 
 -- the table's line of each of the eight
-pub known : (q : Inquiry) → line (code-of q) ≡ entry (code-of q) 0 (inquire q)
+pub known : (q : Inquiry) → line (code-of q) ≡ entry (code-of q) 0 (Inquire q)
 unfolding table find line
-known ask-action = refl
-known ask-mouse = refl
-known ask-threshold = refl
-known ask-scale = refl
-known ask-origin = refl
-known ask-mouse-off = refl
-known ask-stick = refl
-known ask-sticks-off = refl
+known AskAction = refl
+known AskMouse = refl
+known AskThreshold = refl
+known AskScale = refl
+known AskOrigin = refl
+known AskMouseOff = refl
+known AskStick = refl
+known AskSticksOff = refl
 
 -- an inquiry, or a code that does nothing
 abbrev pub asks : Meaning → Bool
-asks nothing = true
-asks memory = false
-asks pause = false
-asks reset = false
-asks (of-mouse m) = false
-asks (of-stick k) = false
-asks (of-other o) = false
-asks (inquire q) = true
+asks Nothing = true
+asks Memory = false
+asks Pause = false
+asks Reset = false
+asks (OfMouse m) = false
+asks (OfStick k) = false
+asks (OfOther o) = false
+asks (Inquire q) = true
 
 -- such a code has no parameters
 pub asks-alone : (b : ℕ) → asks (meaning-of b) ≡ true → parameters-of b ≡ 0
@@ -153,14 +157,14 @@ either false σ = refl
 -- it changes no setting
 asks-only : (m : Meaning) (σ : Settings) → asks m ≡ true → settings-then m zeros σ ≡ σ
 unfolding executed sets settings-then
-asks-only nothing σ h = refl
-asks-only memory σ h = refl
-asks-only pause σ h = refl
-asks-only reset σ h = refl
-asks-only (of-mouse m) σ h = absurd (true≢false (sym h))
-asks-only (of-stick k) σ h = absurd (true≢false (sym h))
-asks-only (of-other o) σ h = absurd (true≢false (sym h))
-asks-only (inquire q) σ h = either (not (monitors (σ .stick))) σ
+asks-only Nothing σ h = refl
+asks-only Memory σ h = refl
+asks-only Pause σ h = refl
+asks-only Reset σ h = refl
+asks-only (OfMouse m) σ h = absurd (true≢false (sym h))
+asks-only (OfStick k) σ h = absurd (true≢false (sym h))
+asks-only (OfOther o) σ h = absurd (true≢false (sym h))
+asks-only (Inquire q) σ h = either (not (monitors (σ .stick))) σ
 
 -- an inquiry or a code that does nothing changes neither the settings nor the place between commands
 pub still : (b : ℕ) (σ : Settings) → asks (meaning-of b) ≡ true → eat (at-rest σ) b ≡ at-rest σ
@@ -191,11 +195,11 @@ stick-reply-length (Cursor x y) = refl
 -- a reply is 8 bytes long
 pub reply-length : (q : Inquiry) (σ : Settings) → length (bytes-of (reply q σ)) ≡ 8
 unfolding reply
-reply-length ask-action σ = refl
-reply-length ask-mouse σ = mouse-reply-length (σ .mouse)
-reply-length ask-threshold σ = refl
-reply-length ask-scale σ = refl
-reply-length ask-origin σ = refl
-reply-length ask-mouse-off σ = refl
-reply-length ask-stick σ = stick-reply-length (σ .stick)
-reply-length ask-sticks-off σ = refl
+reply-length AskAction σ = refl
+reply-length AskMouse σ = mouse-reply-length (σ .mouse)
+reply-length AskThreshold σ = refl
+reply-length AskScale σ = refl
+reply-length AskOrigin σ = refl
+reply-length AskMouseOff σ = refl
+reply-length AskStick σ = stick-reply-length (σ .stick)
+reply-length AskSticksOff σ = refl

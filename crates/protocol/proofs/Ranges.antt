@@ -15,7 +15,14 @@ use Rattle.protocol.specs.declared.StickMode.the-variants.{Event, Interr
 use Rattle.protocol.specs.declared.Role.{Role}
 use Rattle.protocol.specs.declared.Role.the-variants.{ForMouse, ForJoystick}
 use Rattle.protocol.specs.declared.Settings.{Settings}
-use Rattle.protocol.specs.Codes.{MouseCommand, button-action, relative, absolute, keycode, threshold, scale, report-position, load-position, origin-bottom, origin-top, StickCommand, event, interrogation, report-sticks, monitoring, fire, cursor, sticks-off, OtherCommand, resume, mouse-off, set-clock, report-clock, Meaning, nothing, memory, pause, reset, of-mouse, of-stick, of-other, inquire}
+use Rattle.protocol.specs.declared.MouseCommand.{MouseCommand}
+use Rattle.protocol.specs.declared.MouseCommand.the-variants.{SetAction, SetRelative, SetAbsolute, SetKeycode, SetThreshold, SetScale, ReportPosition, LoadPosition, OriginBottom, OriginTop}
+use Rattle.protocol.specs.declared.StickCommand.{StickCommand}
+use Rattle.protocol.specs.declared.StickCommand.the-variants.{SetEvent, SetInterrogation, ReportSticks, SetMonitoring, SetFire, SetCursor, SticksOff}
+use Rattle.protocol.specs.declared.OtherCommand.{OtherCommand}
+use Rattle.protocol.specs.declared.OtherCommand.the-variants.{Resume, MouseOff, SetClock, ReportClock}
+use Rattle.protocol.specs.declared.Meaning.{Meaning}
+use Rattle.protocol.specs.declared.Meaning.the-variants.{Nothing, Memory, Pause, Reset, OfMouse, OfStick, OfOther, Inquire}
 use Rattle.protocol.specs.Reading.{AllBytes}
 use Rattle.protocol.specs.Settings.{IsAxes, IsPoint, IsMouseMode, IsStickMode, IsSettings, most-action, power-up}
 use Rattle.protocol.specs.Commands.{mouse-executed, executed, leave-monitoring, axes-at, point-at, with-action, with-threshold, with-scale, with-origin, with-mouse, with-role, without-mouse, with-stick, without-sticks, mouse-sets, cursor-of, stick-sets, other-sets, sets}
@@ -82,53 +89,53 @@ cursor-is ps h = (
 )
 
 -- "0x07 above 4" is ignored
-pub action-above-4 : (ps : List ℕ) (σ : Settings) → 4 < getD ps 0 0 → executed (of-mouse button-action) ps σ ≡ false
+pub action-above-4 : (ps : List ℕ) (σ : Settings) → 4 < getD ps 0 0 → executed (OfMouse SetAction) ps σ ≡ false
 unfolding mouse-executed executed
 action-above-4 ps σ h = lt-leb (getD ps 0 0) most-action (omega arith)
 
 -- and up to 4 it is executed
-pub action-to-4 : (ps : List ℕ) (σ : Settings) → getD ps 0 0 ≤ 4 → executed (of-mouse button-action) ps σ ≡ true
+pub action-to-4 : (ps : List ℕ) (σ : Settings) → getD ps 0 0 ≤ 4 → executed (OfMouse SetAction) ps σ ≡ true
 unfolding mouse-executed executed
 action-to-4 ps σ h = le-leb (getD ps 0 0) most-action (omega arith)
 
 mouse-is : (m : MouseCommand) (ps : List ℕ) (σ : Settings) → AllBytes ps → mouse-executed m ps σ ≡ true → IsSettings σ → IsSettings (mouse-sets m ps σ)
 unfolding mouse-executed mouse-sets
-mouse-is button-action ps σ h e i = with-action-is (getD ps 0 0) σ (leb-true (getD ps 0 0) most-action e) i
-mouse-is relative ps σ h e i = with-mouse-is Relative σ tt i
-mouse-is absolute ps σ h e i = with-mouse-is (Absolute (point-at 0 ps)) σ (point-is ps h) i
-mouse-is keycode ps σ h e i = with-mouse-is (Keycode (axes-at 0 ps)) σ (axes-is ps h) i
-mouse-is threshold ps σ h e i = with-threshold-is (axes-at 0 ps) σ (axes-is ps h) i
-mouse-is scale ps σ h e i = with-scale-is (axes-at 0 ps) σ (axes-is ps h) i
-mouse-is report-position ps σ h e i = with-role-is ForMouse σ i
-mouse-is load-position ps σ h e i = with-role-is ForMouse σ i
-mouse-is origin-bottom ps σ h e i = with-origin-is true σ i
-mouse-is origin-top ps σ h e i = with-origin-is false σ i
+mouse-is SetAction ps σ h e i = with-action-is (getD ps 0 0) σ (leb-true (getD ps 0 0) most-action e) i
+mouse-is SetRelative ps σ h e i = with-mouse-is Relative σ tt i
+mouse-is SetAbsolute ps σ h e i = with-mouse-is (Absolute (point-at 0 ps)) σ (point-is ps h) i
+mouse-is SetKeycode ps σ h e i = with-mouse-is (Keycode (axes-at 0 ps)) σ (axes-is ps h) i
+mouse-is SetThreshold ps σ h e i = with-threshold-is (axes-at 0 ps) σ (axes-is ps h) i
+mouse-is SetScale ps σ h e i = with-scale-is (axes-at 0 ps) σ (axes-is ps h) i
+mouse-is ReportPosition ps σ h e i = with-role-is ForMouse σ i
+mouse-is LoadPosition ps σ h e i = with-role-is ForMouse σ i
+mouse-is OriginBottom ps σ h e i = with-origin-is true σ i
+mouse-is OriginTop ps σ h e i = with-origin-is false σ i
 
 stick-is : (k : StickCommand) (ps : List ℕ) (σ : Settings) → AllBytes ps → IsSettings σ → IsSettings (stick-sets k ps σ)
 unfolding stick-sets
-stick-is event ps σ h i = with-stick-is Event σ tt i
-stick-is interrogation ps σ h i = with-stick-is Interrogation σ tt i
-stick-is report-sticks ps σ h i = with-role-is ForJoystick σ i
-stick-is monitoring ps σ h i = with-stick-is (Monitoring (getD ps 0 0)) σ (getD-byte ps 0 h) i
-stick-is fire ps σ h i = with-stick-is Fire σ tt i
-stick-is cursor ps σ h i = with-stick-is (cursor-of ps) σ (cursor-is ps h) i
-stick-is sticks-off ps σ h i = without-sticks-is σ i
+stick-is SetEvent ps σ h i = with-stick-is Event σ tt i
+stick-is SetInterrogation ps σ h i = with-stick-is Interrogation σ tt i
+stick-is ReportSticks ps σ h i = with-role-is ForJoystick σ i
+stick-is SetMonitoring ps σ h i = with-stick-is (Monitoring (getD ps 0 0)) σ (getD-byte ps 0 h) i
+stick-is SetFire ps σ h i = with-stick-is Fire σ tt i
+stick-is SetCursor ps σ h i = with-stick-is (cursor-of ps) σ (cursor-is ps h) i
+stick-is SticksOff ps σ h i = without-sticks-is σ i
 
 other-is : (o : OtherCommand) (σ : Settings) → IsSettings σ → IsSettings (other-sets o σ)
 unfolding other-sets
-other-is resume σ i = i
-other-is mouse-off σ i = without-mouse-is σ i
-other-is set-clock σ i = i
-other-is report-clock σ i = i
+other-is Resume σ i = i
+other-is MouseOff σ i = without-mouse-is σ i
+other-is SetClock σ i = i
+other-is ReportClock σ i = i
 
 -- an executed command of bytes keeps the ranges of the settings
 pub settings-is : (m : Meaning) (ps : List ℕ) (σ : Settings) → AllBytes ps → executed m ps σ ≡ true → IsSettings σ → IsSettings (sets m ps σ)
 unfolding executed sets
-settings-is nothing ps σ h e i = i
-settings-is memory ps σ h e i = i
-settings-is pause ps σ h e i = i
-settings-is reset ps σ h e i = power-up-is
-settings-is (of-mouse m) ps σ h e i = mouse-is m ps σ h e i
-settings-is (of-stick k) ps σ h e i = stick-is k ps σ h i
-settings-is (of-other o) ps σ h e i = other-is o σ i
-settings-is (inquire q) ps σ h e i = i
+settings-is Nothing ps σ h e i = i
+settings-is Memory ps σ h e i = i
+settings-is Pause ps σ h e i = i
+settings-is Reset ps σ h e i = power-up-is
+settings-is (OfMouse m) ps σ h e i = mouse-is m ps σ h e i
+settings-is (OfStick k) ps σ h e i = stick-is k ps σ h i
+settings-is (OfOther o) ps σ h e i = other-is o σ i
+settings-is (Inquire q) ps σ h e i = i

@@ -10,7 +10,8 @@ use lib.ListN.{length, getD, set, drop, replicate, length-set}
 use lib.Seq.{drop-set-lt, drop-drop, getD-set-same}
 use borrow.Author.Tests.{ltb-true, ltb-false, leb-true, eqb-true, eqb-false, eq-eqb}
 use Rattle.protocol.specs.declared.Command.{Command}
-use Rattle.protocol.specs.Codes.{Entry, entry, nothing, table, find, line, parameters-of, memory-load}
+use Rattle.protocol.specs.declared.Meaning.the-variants.{Nothing}
+use Rattle.protocol.specs.Codes.{Entry, entry, table, find, line, parameters-of, memory-load}
 use Rattle.protocol.specs.Reading.{most-parameters, zeros, no-command, Fed, half, whole, begin, take-parameter, take-data, feed, command-after, AllBytes, missing, data-told, IsCommand, OneCommand}
 
 -- both ways of a test, each with what it tells
@@ -32,7 +33,7 @@ every test [] = true
 every test (e ∷ es) = test e && every test es
 
 -- such a test passes at the line that is found
-pub find-passes : (test : Entry → Bool) (es : List Entry) (b : ℕ) → every test es ≡ true → test (entry b 0 nothing) ≡ true → test (find es b) ≡ true
+pub find-passes : (test : Entry → Bool) (es : List Entry) (b : ℕ) → every test es ≡ true → test (entry b 0 Nothing) ≡ true → test (find es b) ≡ true
 unfolding every find
 find-passes test [] b h n = n
 find-passes test (e ∷ es) b h n =

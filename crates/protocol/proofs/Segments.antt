@@ -13,7 +13,9 @@ use Rattle.protocol.specs.declared.StickMode.{StickMode}
 use Rattle.protocol.specs.declared.StickMode.the-variants.{Event, Interrogation, Monitoring, Fire, Cursor}
 use Rattle.protocol.specs.declared.Settings.{Settings}
 use Rattle.protocol.specs.declared.Command.{Command}
-use Rattle.protocol.specs.Codes.{Inquiry, ask-action, ask-mouse, ask-threshold, ask-scale, ask-origin, ask-mouse-off, ask-stick, ask-sticks-off, table, find, line}
+use Rattle.protocol.specs.declared.Inquiry.{Inquiry}
+use Rattle.protocol.specs.declared.Inquiry.the-variants.{AskAction, AskMouse, AskThreshold, AskScale, AskOrigin, AskMouseOff, AskStick, AskSticksOff}
+use Rattle.protocol.specs.Codes.{table, find, line}
 use Rattle.protocol.specs.Reading.{no-command, Between, begin, take-parameter, take-data, feed, command-after}
 use Rattle.protocol.specs.Settings.{most-action}
 use Rattle.protocol.specs.Commands.{mouse-executed, stick-executed, executed, with-action, with-threshold, with-scale, with-origin, with-mouse, without-mouse, with-stick, without-sticks, mouse-sets, stick-sets, other-sets, sets, settings-then, settings-after}
@@ -34,14 +36,14 @@ eat-between c b h = ap (λ f. record { settings = settings-after (c .settings) f
 
 -- what the kept bytes of τ do to settings σ
 unfoldable pub restored : Inquiry → Settings → Settings → Settings
-restored ask-action τ σ = with-action (τ .action) σ
-restored ask-mouse τ σ = with-mouse (τ .mouse) σ
-restored ask-threshold τ σ = with-threshold (τ .threshold) σ
-restored ask-scale τ σ = with-scale (τ .scale) σ
-restored ask-origin τ σ = with-origin (τ .bottom) σ
-restored ask-mouse-off τ σ = cond (τ .mouseon) σ (without-mouse σ)
-restored ask-stick τ σ = with-stick (τ .stick) σ
-restored ask-sticks-off τ σ = cond (τ .stickson) σ (without-sticks σ)
+restored AskAction τ σ = with-action (τ .action) σ
+restored AskMouse τ σ = with-mouse (τ .mouse) σ
+restored AskThreshold τ σ = with-threshold (τ .threshold) σ
+restored AskScale τ σ = with-scale (τ .scale) σ
+restored AskOrigin τ σ = with-origin (τ .bottom) σ
+restored AskMouseOff τ σ = cond (τ .mouseon) σ (without-mouse σ)
+restored AskStick τ σ = with-stick (τ .stick) σ
+restored AskSticksOff τ σ = cond (τ .stickson) σ (without-sticks σ)
 
 -- the rules that kept bytes go through
 rules : Unit {0}
@@ -49,15 +51,15 @@ unfolding table find line begin take-parameter take-data feed command-after mous
 rules = tt
 
 -- Each of the eight, by computing: the table at a literal code, the parameters as they come, the zeros that do nothing.
-action-segment : (τ σ : Settings) → τ .action ≤ most-action → eats (at-rest σ) (kept-bytes ask-action τ) ≡ at-rest (restored ask-action τ σ)
+action-segment : (τ σ : Settings) → τ .action ≤ most-action → eats (at-rest σ) (kept-bytes AskAction τ) ≡ at-rest (restored AskAction τ σ)
 unfolding rules reply restored
 action-segment τ σ h = rw (le-leb (τ .action) most-action h)
 
-threshold-segment : (τ σ : Settings) → eats (at-rest σ) (kept-bytes ask-threshold τ) ≡ at-rest (restored ask-threshold τ σ)
+threshold-segment : (τ σ : Settings) → eats (at-rest σ) (kept-bytes AskThreshold τ) ≡ at-rest (restored AskThreshold τ σ)
 unfolding rules reply restored
 threshold-segment τ σ = refl
 
-scale-segment : (τ σ : Settings) → eats (at-rest σ) (kept-bytes ask-scale τ) ≡ at-rest (restored ask-scale τ σ)
+scale-segment : (τ σ : Settings) → eats (at-rest σ) (kept-bytes AskScale τ) ≡ at-rest (restored AskScale τ σ)
 unfolding rules reply restored
 scale-segment τ σ = refl
 
@@ -100,11 +102,11 @@ stick-segment (Cursor x y) σ = refl
 -- all eight in one
 pub segment : (q : Inquiry) (τ σ : Settings) → τ .action ≤ most-action → eats (at-rest σ) (kept-bytes q τ) ≡ at-rest (restored q τ σ)
 unfolding reply restored
-segment ask-action τ σ h = action-segment τ σ h
-segment ask-mouse τ σ h = mouse-segment (τ .mouse) σ
-segment ask-threshold τ σ h = threshold-segment τ σ
-segment ask-scale τ σ h = scale-segment τ σ
-segment ask-origin τ σ h = origin-segment (τ .bottom) σ
-segment ask-mouse-off τ σ h = mouse-off-segment (τ .mouseon) σ
-segment ask-stick τ σ h = stick-segment (τ .stick) σ
-segment ask-sticks-off τ σ h = sticks-off-segment (τ .stickson) σ
+segment AskAction τ σ h = action-segment τ σ h
+segment AskMouse τ σ h = mouse-segment (τ .mouse) σ
+segment AskThreshold τ σ h = threshold-segment τ σ
+segment AskScale τ σ h = scale-segment τ σ
+segment AskOrigin τ σ h = origin-segment (τ .bottom) σ
+segment AskMouseOff τ σ h = mouse-off-segment (τ .mouseon) σ
+segment AskStick τ σ h = stick-segment (τ .stick) σ
+segment AskSticksOff τ σ h = sticks-off-segment (τ .stickson) σ

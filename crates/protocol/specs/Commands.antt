@@ -14,22 +14,30 @@ use Rattle.protocol.specs.declared.StickMode.the-variants.{Event, Interr
 use Rattle.protocol.specs.declared.Role.{Role}
 use Rattle.protocol.specs.declared.Role.the-variants.{ForMouse, ForJoystick}
 use Rattle.protocol.specs.declared.Settings.{Settings}
-use Rattle.protocol.specs.Codes.{MouseCommand, button-action, relative, absolute, keycode, threshold, scale, report-position, load-position, origin-bottom, origin-top, StickCommand, event, interrogation, report-sticks, monitoring, fire, cursor, sticks-off, OtherCommand, resume, mouse-off, set-clock, report-clock, Meaning, nothing, memory, pause, reset, of-mouse, of-stick, of-other, inquire, meaning-of}
+use Rattle.protocol.specs.declared.MouseCommand.{MouseCommand}
+use Rattle.protocol.specs.declared.MouseCommand.the-variants.{SetAction, SetRelative, SetAbsolute, SetKeycode, SetThreshold, SetScale, ReportPosition, LoadPosition, OriginBottom, OriginTop}
+use Rattle.protocol.specs.declared.StickCommand.{StickCommand}
+use Rattle.protocol.specs.declared.StickCommand.the-variants.{SetEvent, SetInterrogation, ReportSticks, SetMonitoring, SetFire, SetCursor, SticksOff}
+use Rattle.protocol.specs.declared.OtherCommand.{OtherCommand}
+use Rattle.protocol.specs.declared.OtherCommand.the-variants.{Resume, MouseOff, SetClock, ReportClock}
+use Rattle.protocol.specs.declared.Meaning.{Meaning}
+use Rattle.protocol.specs.declared.Meaning.the-variants.{Nothing, Memory, Pause, Reset, OfMouse, OfStick, OfOther, Inquire}
+use Rattle.protocol.specs.Codes.{meaning-of}
 use Rattle.protocol.specs.Reading.{Fed, half, whole}
 use Rattle.protocol.specs.Settings.{power-up, most-action, monitors, is-absolute}
 
 -- "Ignored commands change nothing: 0x07 above 4; 0x0D and 0x0E outside absolute mode"
 unfoldable pub mouse-executed : MouseCommand → List ℕ → Settings → Bool
-mouse-executed button-action ps σ = leb (getD ps 0 0) most-action
-mouse-executed relative ps σ = true
-mouse-executed absolute ps σ = true
-mouse-executed keycode ps σ = true
-mouse-executed threshold ps σ = true
-mouse-executed scale ps σ = true
-mouse-executed report-position ps σ = is-absolute (σ .mouse)
-mouse-executed load-position ps σ = is-absolute (σ .mouse)
-mouse-executed origin-bottom ps σ = true
-mouse-executed origin-top ps σ = true
+mouse-executed SetAction ps σ = leb (getD ps 0 0) most-action
+mouse-executed SetRelative ps σ = true
+mouse-executed SetAbsolute ps σ = true
+mouse-executed SetKeycode ps σ = true
+mouse-executed SetThreshold ps σ = true
+mouse-executed SetScale ps σ = true
+mouse-executed ReportPosition ps σ = is-absolute (σ .mouse)
+mouse-executed LoadPosition ps σ = is-absolute (σ .mouse)
+mouse-executed OriginBottom ps σ = true
+mouse-executed OriginTop ps σ = true
 
 -- the modes in which 0x16 is executed: "event and interrogation mode"
 abbrev pub answers-interrogation : StickMode → Bool
@@ -41,24 +49,24 @@ answers-interrogation (Cursor x y) = false
 
 -- "0x16 outside event and interrogation mode or with joysticks off"
 unfoldable pub stick-executed : StickCommand → Settings → Bool
-stick-executed event σ = true
-stick-executed interrogation σ = true
-stick-executed report-sticks σ = answers-interrogation (σ .stick) && σ .stickson
-stick-executed monitoring σ = true
-stick-executed fire σ = true
-stick-executed cursor σ = true
-stick-executed sticks-off σ = true
+stick-executed SetEvent σ = true
+stick-executed SetInterrogation σ = true
+stick-executed ReportSticks σ = answers-interrogation (σ .stick) && σ .stickson
+stick-executed SetMonitoring σ = true
+stick-executed SetFire σ = true
+stick-executed SetCursor σ = true
+stick-executed SticksOff σ = true
 
 -- Executed or ignored: "0x80 then 0x01 resets"; "inquiries in either monitoring mode; 0x20 to 0x22" are ignored, and codes that do nothing do nothing
 unfoldable pub executed : Meaning → List ℕ → Settings → Bool
-executed nothing ps σ = false
-executed memory ps σ = false
-executed pause ps σ = true
-executed reset ps σ = eqb (getD ps 0 0) 1
-executed (of-mouse m) ps σ = mouse-executed m ps σ
-executed (of-stick k) ps σ = stick-executed k σ
-executed (of-other o) ps σ = true
-executed (inquire q) ps σ = not (monitors (σ .stick))
+executed Nothing ps σ = false
+executed Memory ps σ = false
+executed Pause ps σ = true
+executed Reset ps σ = eqb (getD ps 0 0) 1
+executed (OfMouse m) ps σ = mouse-executed m ps σ
+executed (OfStick k) ps σ = stick-executed k σ
+executed (OfOther o) ps σ = true
+executed (Inquire q) ps σ = not (monitors (σ .stick))
 
 -- "from a monitoring mode, go to event mode"
 abbrev pub leave-monitoring : StickMode → StickMode
@@ -201,16 +209,16 @@ without-sticks σ = record {
 
 -- what an executed command of the mouse does to the settings
 unfoldable pub mouse-sets : MouseCommand → List ℕ → Settings → Settings
-mouse-sets button-action ps σ = with-action (getD ps 0 0) σ
-mouse-sets relative ps σ = with-mouse Relative σ
-mouse-sets absolute ps σ = with-mouse (Absolute (point-at 0 ps)) σ
-mouse-sets keycode ps σ = with-mouse (Keycode (axes-at 0 ps)) σ
-mouse-sets threshold ps σ = with-threshold (axes-at 0 ps) σ
-mouse-sets scale ps σ = with-scale (axes-at 0 ps) σ
-mouse-sets report-position ps σ = with-role ForMouse σ
-mouse-sets load-position ps σ = with-role ForMouse σ
-mouse-sets origin-bottom ps σ = with-origin true σ
-mouse-sets origin-top ps σ = with-origin false σ
+mouse-sets SetAction ps σ = with-action (getD ps 0 0) σ
+mouse-sets SetRelative ps σ = with-mouse Relative σ
+mouse-sets SetAbsolute ps σ = with-mouse (Absolute (point-at 0 ps)) σ
+mouse-sets SetKeycode ps σ = with-mouse (Keycode (axes-at 0 ps)) σ
+mouse-sets SetThreshold ps σ = with-threshold (axes-at 0 ps) σ
+mouse-sets SetScale ps σ = with-scale (axes-at 0 ps) σ
+mouse-sets ReportPosition ps σ = with-role ForMouse σ
+mouse-sets LoadPosition ps σ = with-role ForMouse σ
+mouse-sets OriginBottom ps σ = with-origin true σ
+mouse-sets OriginTop ps σ = with-origin false σ
 
 -- the numbers of 0x19 come as RX RY TX TY VX VY
 abbrev pub cursor-of : List ℕ → StickMode
@@ -220,30 +228,30 @@ cursor-of ps =
 
 -- what an executed command of the joysticks does to the settings
 unfoldable pub stick-sets : StickCommand → List ℕ → Settings → Settings
-stick-sets event ps σ = with-stick Event σ
-stick-sets interrogation ps σ = with-stick Interrogation σ
-stick-sets report-sticks ps σ = with-role ForJoystick σ
-stick-sets monitoring ps σ = with-stick (Monitoring (getD ps 0 0)) σ
-stick-sets fire ps σ = with-stick Fire σ
-stick-sets cursor ps σ = with-stick (cursor-of ps) σ
-stick-sets sticks-off ps σ = without-sticks σ
+stick-sets SetEvent ps σ = with-stick Event σ
+stick-sets SetInterrogation ps σ = with-stick Interrogation σ
+stick-sets ReportSticks ps σ = with-role ForJoystick σ
+stick-sets SetMonitoring ps σ = with-stick (Monitoring (getD ps 0 0)) σ
+stick-sets SetFire ps σ = with-stick Fire σ
+stick-sets SetCursor ps σ = with-stick (cursor-of ps) σ
+stick-sets SticksOff ps σ = without-sticks σ
 
 unfoldable pub other-sets : OtherCommand → Settings → Settings
-other-sets resume σ = σ
-other-sets mouse-off σ = without-mouse σ
-other-sets set-clock σ = σ
-other-sets report-clock σ = σ
+other-sets Resume σ = σ
+other-sets MouseOff σ = without-mouse σ
+other-sets SetClock σ = σ
+other-sets ReportClock σ = σ
 
 -- an executed command, whichever it is; a reset puts the settings back to power-up
 unfoldable pub sets : Meaning → List ℕ → Settings → Settings
-sets nothing ps σ = σ
-sets memory ps σ = σ
-sets pause ps σ = σ
-sets reset ps σ = power-up
-sets (of-mouse m) ps σ = mouse-sets m ps σ
-sets (of-stick k) ps σ = stick-sets k ps σ
-sets (of-other o) ps σ = other-sets o σ
-sets (inquire q) ps σ = σ
+sets Nothing ps σ = σ
+sets Memory ps σ = σ
+sets Pause ps σ = σ
+sets Reset ps σ = power-up
+sets (OfMouse m) ps σ = mouse-sets m ps σ
+sets (OfStick k) ps σ = stick-sets k ps σ
+sets (OfOther o) ps σ = other-sets o σ
+sets (Inquire q) ps σ = σ
 
 -- a whole command: "Ignored commands change nothing"
 unfoldable pub settings-then : Meaning → List ℕ → Settings → Settings

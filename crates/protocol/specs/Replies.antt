@@ -11,18 +11,19 @@ use Rattle.protocol.specs.declared.StickMode.the-variants.{Event, Interr
 use Rattle.protocol.specs.declared.Role.{Role}
 use Rattle.protocol.specs.declared.Role.the-variants.{ForMouse, ForJoystick}
 use Rattle.protocol.specs.declared.Settings.{Settings}
-use Rattle.protocol.specs.Codes.{Inquiry, ask-action, ask-mouse, ask-threshold, ask-scale, ask-origin, ask-mouse-off, ask-stick, ask-sticks-off}
+use Rattle.protocol.specs.declared.Inquiry.{Inquiry}
+use Rattle.protocol.specs.declared.Inquiry.the-variants.{AskAction, AskMouse, AskThreshold, AskScale, AskOrigin, AskMouseOff, AskStick, AskSticksOff}
 
 -- the code of each of the eight
 abbrev pub code-of : Inquiry → ℕ
-code-of ask-action = 0x87
-code-of ask-mouse = 0x88
-code-of ask-threshold = 0x8B
-code-of ask-scale = 0x8C
-code-of ask-origin = 0x8F
-code-of ask-mouse-off = 0x92
-code-of ask-stick = 0x94
-code-of ask-sticks-off = 0x9A
+code-of AskAction = 0x87
+code-of AskMouse = 0x88
+code-of AskThreshold = 0x8B
+code-of AskScale = 0x8C
+code-of AskOrigin = 0x8F
+code-of AskMouseOff = 0x92
+code-of AskStick = 0x94
+code-of AskSticksOff = 0x9A
 
 -- "the order of the 0x09 command decides": X and then Y, high byte first
 abbrev pub mouse-reply : MouseMode → Packet
@@ -40,14 +41,14 @@ stick-reply (Cursor x y) = status 0x19 (x .breakpoint) (y .breakpoint) (x .befor
 
 -- "A reply is 0xF6, then the command that would set it, filled with zeros to 8 bytes."
 unfoldable pub reply : Inquiry → Settings → Packet
-reply ask-action σ = status 0x07 (σ .action) 0 0 0 0 0
-reply ask-mouse σ = mouse-reply (σ .mouse)
-reply ask-threshold σ = status 0x0B (σ .threshold .x) (σ .threshold .y) 0 0 0 0
-reply ask-scale σ = status 0x0C (σ .scale .x) (σ .scale .y) 0 0 0 0
-reply ask-origin σ = status (cond (σ .bottom) 0x0F 0x10) 0 0 0 0 0 0
-reply ask-mouse-off σ = status (cond (σ .mouseon) 0x00 0x12) 0 0 0 0 0 0
-reply ask-stick σ = stick-reply (σ .stick)
-reply ask-sticks-off σ = status (cond (σ .stickson) 0x00 0x1A) 0 0 0 0 0 0
+reply AskAction σ = status 0x07 (σ .action) 0 0 0 0 0
+reply AskMouse σ = mouse-reply (σ .mouse)
+reply AskThreshold σ = status 0x0B (σ .threshold .x) (σ .threshold .y) 0 0 0 0
+reply AskScale σ = status 0x0C (σ .scale .x) (σ .scale .y) 0 0 0 0
+reply AskOrigin σ = status (cond (σ .bottom) 0x0F 0x10) 0 0 0 0 0 0
+reply AskMouseOff σ = status (cond (σ .mouseon) 0x00 0x12) 0 0 0 0 0 0
+reply AskStick σ = stick-reply (σ .stick)
+reply AskSticksOff σ = status (cond (σ .stickson) 0x00 0x1A) 0 0 0 0 0 0
 
 -- "the seven after 0xF6 are copied and kept, zeros too"
 abbrev pub kept-bytes : Inquiry → Settings → List ℕ
@@ -56,8 +57,8 @@ kept-bytes q σ = drop 1 (bytes-of (reply q σ))
 -- "Put back: port 0 a mouse, sticks first and then mouse; port 0 a joystick, mouse first and then sticks; within each, the order above."
 abbrev pub in-order : Role → (Inquiry → List ℕ) → List ℕ
 in-order ForMouse kept =
-    kept ask-stick ++ (kept ask-sticks-off
-    ++ (kept ask-action ++ (kept ask-mouse ++ (kept ask-threshold ++ (kept ask-scale ++ (kept ask-origin ++ kept ask-mouse-off))))))
+    kept AskStick ++ (kept AskSticksOff
+    ++ (kept AskAction ++ (kept AskMouse ++ (kept AskThreshold ++ (kept AskScale ++ (kept AskOrigin ++ kept AskMouseOff))))))
 in-order ForJoystick kept =
-    kept ask-action ++ (kept ask-mouse ++ (kept ask-threshold ++ (kept ask-scale ++ (kept ask-origin ++ (kept ask-mouse-off
-    ++ (kept ask-stick ++ kept ask-sticks-off))))))
+    kept AskAction ++ (kept AskMouse ++ (kept AskThreshold ++ (kept AskScale ++ (kept AskOrigin ++ (kept AskMouseOff
+    ++ (kept AskStick ++ kept AskSticksOff))))))

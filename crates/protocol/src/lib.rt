@@ -56,6 +56,63 @@ pub struct Settings {
     pub port0: Role,
 }
 
+// What a command code means. 0x07 to 0x10: the mouse's commands, which make port 0 a mouse.
+pub enum MouseCommand {
+    SetAction,
+    SetRelative,
+    SetAbsolute,
+    SetKeycode,
+    SetThreshold,
+    SetScale,
+    ReportPosition,
+    LoadPosition,
+    OriginBottom,
+    OriginTop,
+}
+
+// 0x14 to 0x1A: the joysticks' commands, which make port 0 a joystick.
+pub enum StickCommand {
+    SetEvent,
+    SetInterrogation,
+    ReportSticks,
+    SetMonitoring,
+    SetFire,
+    SetCursor,
+    SticksOff,
+}
+
+// 0x11, 0x12, 0x1B and 0x1C leave port 0's role.
+pub enum OtherCommand {
+    Resume,
+    MouseOff,
+    SetClock,
+    ReportClock,
+}
+
+// The eight inquiries: 87 88 8B 8C 8F 92 of the mouse, 94 9A of the sticks.
+pub enum Inquiry {
+    AskAction,
+    AskMouse,
+    AskThreshold,
+    AskScale,
+    AskOrigin,
+    AskMouseOff,
+    AskStick,
+    AskSticksOff,
+}
+
+// `Nothing`: a code that does nothing. `Memory`: the three memory commands, read to their end and ignored.
+pub enum Meaning {
+    Nothing,
+    Memory,
+    Pause,
+    Reset,
+    OfMouse(MouseCommand),
+    OfStick(StickCommand),
+    OfOther(OtherCommand),
+    Inquire(Inquiry),
+}
+
 // A half-received command: its code, how many parameter bytes have come, those bytes, and how many data bytes of a
 // memory load (0x20) are still to come. Code 0: none is half received.
 pub struct Command {

@@ -12,7 +12,7 @@ use Rattle.protocol.specs.declared.StickMode.the-variants.{Event, Monitoring, F
 use Rattle.protocol.specs.declared.Role.{Role}
 use Rattle.protocol.specs.declared.Role.the-variants.{ForMouse, ForJoystick}
 use Rattle.protocol.specs.declared.Settings.{Settings}
-use Rattle.protocol.specs.Codes.{report-sticks, event}
+use Rattle.protocol.specs.declared.StickCommand.the-variants.{ReportSticks, SetEvent}
 use Rattle.sticks.specs.declared.Stick.{Stick}
 use Rattle.sticks.specs.declared.Sticks.{Sticks}
 use Rattle.sticks.specs.Sticks.{quiet, unmoved, no-count, centred, horizontal, vertical}
@@ -196,13 +196,13 @@ unfolding sampled sampled-in gathered
 eight-samples = refl
 
 -- 0x16 sends both sticks, stick 0 first
-pub both-asked : bytes (commanded report-sticks Event (held (pointing 1 true) (pointing 8 false)) .packets) ≡ (0xFD ∷ 0x81 ∷ 0x08 ∷ [])
+pub both-asked : bytes (commanded ReportSticks Event (held (pointing 1 true) (pointing 8 false)) .packets) ≡ (0xFD ∷ 0x81 ∷ 0x08 ∷ [])
 unfolding commanded
 both-asked = refl
 
 -- a joystick mode command clears counts, ticks and samples; leaving monitoring clears the last two
 pub cleared-by-mode :
-    commanded event (Monitoring 9)
+    commanded SetEvent (Monitoring 9)
     (record {
       zero = pointing 1 true;
       one = centred;

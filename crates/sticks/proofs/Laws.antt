@@ -13,7 +13,10 @@ use Rattle.protocol.specs.declared.StickMode.{StickMode}
 use Rattle.protocol.specs.declared.StickMode.the-variants.{Event, Interrogation, Monitoring, Fire, Cursor}
 use Rattle.protocol.specs.declared.Settings.{Settings}
 use Rattle.protocol.specs.Settings.{acts-as}
-use Rattle.protocol.specs.Codes.{StickCommand, event, interrogation, report-sticks, monitoring, fire, cursor, sticks-off, MouseCommand, button-action, relative, absolute, keycode, threshold, scale, report-position, load-position, origin-bottom, origin-top}
+use Rattle.protocol.specs.declared.MouseCommand.{MouseCommand}
+use Rattle.protocol.specs.declared.MouseCommand.the-variants.{SetAction, SetRelative, SetAbsolute, SetKeycode, SetThreshold, SetScale, ReportPosition, LoadPosition, OriginBottom, OriginTop}
+use Rattle.protocol.specs.declared.StickCommand.{StickCommand}
+use Rattle.protocol.specs.declared.StickCommand.the-variants.{SetEvent, SetInterrogation, ReportSticks, SetMonitoring, SetFire, SetCursor, SticksOff}
 use Rattle.protocol.specs.Commands.{stick-sets, mouse-sets}
 use Rattle.sticks.specs.declared.Stick.{Stick}
 use Rattle.sticks.specs.declared.Count.{Count}
@@ -137,24 +140,24 @@ sampled-paused σ b s = refl
 -- a command of the joysticks gives a state of the mode that it sets
 pub commanded-is : (c : StickCommand) (ps : List ℕ) (σ : Settings) (s : Sticks) → GoodSticks (σ .stick) s → GoodSticks (stick-sets c ps σ .stick) (commanded c (σ .stick) s .sticks)
 unfolding stick-sets commanded
-commanded-is event ps σ s h = cleared-is _ _ s h
-commanded-is interrogation ps σ s h = cleared-is _ _ s h
-commanded-is report-sticks ps σ s h = h
-commanded-is monitoring ps σ s h = cleared-is _ _ s h
-commanded-is fire ps σ s h = cleared-is _ _ s h
-commanded-is cursor ps σ s h = cleared-is _ _ s h
-commanded-is sticks-off ps σ s h = left-is (σ .stick) s h
+commanded-is SetEvent ps σ s h = cleared-is _ _ s h
+commanded-is SetInterrogation ps σ s h = cleared-is _ _ s h
+commanded-is ReportSticks ps σ s h = h
+commanded-is SetMonitoring ps σ s h = cleared-is _ _ s h
+commanded-is SetFire ps σ s h = cleared-is _ _ s h
+commanded-is SetCursor ps σ s h = cleared-is _ _ s h
+commanded-is SticksOff ps σ s h = left-is (σ .stick) s h
 
 -- a command of the mouse gives a state of the joystick mode that it leaves
 pub mouse-commanded-is : (c : MouseCommand) (ps : List ℕ) (σ : Settings) (s : Sticks) → GoodSticks (σ .stick) s → GoodSticks (mouse-sets c ps σ .stick) (mouse-commanded c (σ .stick) s)
 unfolding mouse-sets mouse-commanded
-mouse-commanded-is button-action ps σ s h = h
-mouse-commanded-is relative ps σ s h = left-is (σ .stick) s h
-mouse-commanded-is absolute ps σ s h = left-is (σ .stick) s h
-mouse-commanded-is keycode ps σ s h = left-is (σ .stick) s h
-mouse-commanded-is threshold ps σ s h = h
-mouse-commanded-is scale ps σ s h = h
-mouse-commanded-is report-position ps σ s h = h
-mouse-commanded-is load-position ps σ s h = h
-mouse-commanded-is origin-bottom ps σ s h = h
-mouse-commanded-is origin-top ps σ s h = h
+mouse-commanded-is SetAction ps σ s h = h
+mouse-commanded-is SetRelative ps σ s h = left-is (σ .stick) s h
+mouse-commanded-is SetAbsolute ps σ s h = left-is (σ .stick) s h
+mouse-commanded-is SetKeycode ps σ s h = left-is (σ .stick) s h
+mouse-commanded-is SetThreshold ps σ s h = h
+mouse-commanded-is SetScale ps σ s h = h
+mouse-commanded-is ReportPosition ps σ s h = h
+mouse-commanded-is LoadPosition ps σ s h = h
+mouse-commanded-is OriginBottom ps σ s h = h
+mouse-commanded-is OriginTop ps σ s h = h

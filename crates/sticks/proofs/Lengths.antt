@@ -14,7 +14,8 @@ use Rattle.protocol.specs.declared.StickMode.{StickMode}
 use Rattle.protocol.specs.declared.StickMode.the-variants.{Event, Interrogation, Monitoring, Fire, Cursor}
 use Rattle.protocol.specs.declared.Settings.{Settings}
 use Rattle.protocol.specs.Settings.{acts-as}
-use Rattle.protocol.specs.Codes.{StickCommand, event, interrogation, report-sticks, monitoring, fire, cursor, sticks-off}
+use Rattle.protocol.specs.declared.StickCommand.{StickCommand}
+use Rattle.protocol.specs.declared.StickCommand.the-variants.{SetEvent, SetInterrogation, ReportSticks, SetMonitoring, SetFire, SetCursor, SticksOff}
 use Rattle.sticks.specs.declared.Stick.{Stick}
 use Rattle.sticks.specs.declared.Count.{Count}
 use Rattle.sticks.specs.declared.Sticks.{Sticks}
@@ -131,10 +132,10 @@ sampled-length false σ b s = sampled-in-length (σ .stick) b s .length-most
 -- a command of the joysticks sends at most both sticks
 pub commanded-length : (c : StickCommand) (mode : StickMode) (s : Sticks) → length (bytes (commanded c mode s .packets)) ≤ 3
 unfolding commanded
-commanded-length event mode s = omega arith
-commanded-length interrogation mode s = omega arith
-commanded-length report-sticks mode s = omega arith
-commanded-length monitoring mode s = omega arith
-commanded-length fire mode s = omega arith
-commanded-length cursor mode s = omega arith
-commanded-length sticks-off mode s = omega arith
+commanded-length SetEvent mode s = omega arith
+commanded-length SetInterrogation mode s = omega arith
+commanded-length ReportSticks mode s = omega arith
+commanded-length SetMonitoring mode s = omega arith
+commanded-length SetFire mode s = omega arith
+commanded-length SetCursor mode s = omega arith
+commanded-length SticksOff mode s = omega arith

@@ -4,7 +4,10 @@ use mathlib.Core.List.{List, [], _∷_}
 use Rattle.output.specs.Packets.{Packet, sticks}
 use Rattle.protocol.specs.declared.StickMode.{StickMode}
 use Rattle.protocol.specs.Settings.{monitors}
-use Rattle.protocol.specs.Codes.{StickCommand, event, interrogation, report-sticks, monitoring, fire, cursor, sticks-off, MouseCommand, button-action, relative, absolute, keycode, threshold, scale, report-position, load-position, origin-bottom, origin-top}
+use Rattle.protocol.specs.declared.MouseCommand.{MouseCommand}
+use Rattle.protocol.specs.declared.MouseCommand.the-variants.{SetAction, SetRelative, SetAbsolute, SetKeycode, SetThreshold, SetScale, ReportPosition, LoadPosition, OriginBottom, OriginTop}
+use Rattle.protocol.specs.declared.StickCommand.{StickCommand}
+use Rattle.protocol.specs.declared.StickCommand.the-variants.{SetEvent, SetInterrogation, ReportSticks, SetMonitoring, SetFire, SetCursor, SticksOff}
 use Rattle.sticks.specs.declared.Sticks.{Sticks}
 use Rattle.sticks.specs.Sticks.{SticksDue, quiet, no-count, byte}
 
@@ -19,23 +22,23 @@ left-from mode s =
 
 -- an executed command of the joysticks, from this mode; "0x16 sends 0xFD and both"
 unfoldable pub commanded : StickCommand → StickMode → Sticks → SticksDue
-commanded event mode s = quiet (cleared s)
-commanded interrogation mode s = quiet (cleared s)
-commanded report-sticks mode s = record { packets = sticks (byte (s .zero)) (byte (s .one)) ∷ []; sticks = s }
-commanded monitoring mode s = quiet (cleared s)
-commanded fire mode s = quiet (cleared s)
-commanded cursor mode s = quiet (cleared s)
-commanded sticks-off mode s = quiet (left-from mode s)
+commanded SetEvent mode s = quiet (cleared s)
+commanded SetInterrogation mode s = quiet (cleared s)
+commanded ReportSticks mode s = record { packets = sticks (byte (s .zero)) (byte (s .one)) ∷ []; sticks = s }
+commanded SetMonitoring mode s = quiet (cleared s)
+commanded SetFire mode s = quiet (cleared s)
+commanded SetCursor mode s = quiet (cleared s)
+commanded SticksOff mode s = quiet (left-from mode s)
 
 -- an executed command of the mouse: 0x08, 0x09 and 0x0A leave a monitoring mode
 unfoldable pub mouse-commanded : MouseCommand → StickMode → Sticks → Sticks
-mouse-commanded button-action mode s = s
-mouse-commanded relative mode s = left-from mode s
-mouse-commanded absolute mode s = left-from mode s
-mouse-commanded keycode mode s = left-from mode s
-mouse-commanded threshold mode s = s
-mouse-commanded scale mode s = s
-mouse-commanded report-position mode s = s
-mouse-commanded load-position mode s = s
-mouse-commanded origin-bottom mode s = s
-mouse-commanded origin-top mode s = s
+mouse-commanded SetAction mode s = s
+mouse-commanded SetRelative mode s = left-from mode s
+mouse-commanded SetAbsolute mode s = left-from mode s
+mouse-commanded SetKeycode mode s = left-from mode s
+mouse-commanded SetThreshold mode s = s
+mouse-commanded SetScale mode s = s
+mouse-commanded ReportPosition mode s = s
+mouse-commanded LoadPosition mode s = s
+mouse-commanded OriginBottom mode s = s
+mouse-commanded OriginTop mode s = s
