@@ -3,3 +3,4 @@ pub mod Reports
 pub mod Moves
 pub mod Buttons
 pub mod Commands
+pub mod Sending

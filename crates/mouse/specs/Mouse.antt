@@ -46,6 +46,10 @@ pub record IsMouse (paused : Bool) (σ : Settings) (m : Mouse) : Type 0 where
   pub held-x : size (m .held .x) ≤ held-most paused σ
   pub held-y : size (m .held .y) ≤ held-most paused σ
 
+-- what the code asks of held motion: it is within its limit, whatever the mode
+abbrev pub WithinLimit : Mouse → Type 0
+WithinLimit m = (size (m .held .x) ≤ held-limit) × (size (m .held .y) ≤ held-limit)
+
 -- a representation fact: one side of each held motion is 0
 pub record OneMouse (m : Mouse) : Type 0 where
   pub x : OneSided (m .held .x)

@@ -2,6 +2,7 @@
 ghost use mathlib.Core.Path.{_≡_};
 ghost use Rattle.mouse.specs.Mouse.{at-power-up, held-limit};
 use motion::Motions;
+use output::Short;
 use protocol::Point;
 
 // Which buttons went down or up since the last 0x0D.
@@ -24,6 +25,34 @@ pub struct Mouse {
 pub enum Side {
     Left,
     Right,
+}
+
+// What is sent of held motion: `packets` packets of `held` with these button levels, and arrow keys, of which there are none where
+// there are packets. Whoever writes it asks its length first.
+pub struct Sending {
+    pub packets: u16,
+    pub levels: u8,
+    pub held: Motions,
+    pub arrows: Motions,
+}
+
+// What motion, or a resume, comes to.
+pub struct Moved {
+    pub sending: Sending,
+    pub mouse: Mouse,
+}
+
+// What a button comes to: held motion is sent, or a short packet, or nothing.
+pub struct Pressed {
+    pub sending: Sending,
+    pub short: Short,
+    pub mouse: Mouse,
+}
+
+// What a command of the mouse comes to.
+pub struct Commanded {
+    pub short: Short,
+    pub mouse: Mouse,
 }
 
 impl Mouse {

@@ -1,3 +1,4 @@
 pub mod ScanCodes
 pub mod Packets
+pub mod Short
 pub mod Writing

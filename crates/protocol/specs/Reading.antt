@@ -1,11 +1,12 @@
 -- How bytes become commands: "A command acts on its last byte."
 use Prim.Native.Nat.{ℕ, suc, _+_, _-_, _≤_}
 use mathlib.Core.Path.{_≡_}
-use mathlib.Core.Bool.{Bool, cond, _&&_}
+use mathlib.Core.Bool.{Bool, true, false, cond, _&&_}
 use mathlib.Core.List.{List, [], _∷_}
 use lib.Dec.{eqb, ltb}
 use lib.ListN.{length, getD, set, drop, replicate}
 use Rattle.protocol.specs.declared.Command.{Command}
+use Rattle.protocol.specs.declared.Received.{Received}
 use Rattle.protocol.specs.Codes.{parameters-of, memory-load}
 
 -- the most parameter bytes that a command has
@@ -81,3 +82,8 @@ pub record IsCommand (c : Command) : Type 0 where
 -- a representation fact: parameter bytes past the count are 0. With the ranges, no command is all 0.
 abbrev pub OneCommand : Command → Type 0
 OneCommand c = drop (c .come) (c .params) ≡ replicate (most-parameters - c .come) 0
+
+-- how the code hands on what a byte came to
+abbrev pub received-of : Fed → Received
+received-of (half c) = record { whole = false; code = 0; params = zeros; command = c }
+received-of (whole code params) = record { whole = true; code = code; params = params; command = no-command }

@@ -1,7 +1,7 @@
 // Commands and settings: what the host can set, and a command of which not all bytes have come.
 ghost use mathlib.Core.Path.{_≡_};
 ghost use Rattle.protocol.specs.Reading.{no-command};
-ghost use Rattle.protocol.specs.Settings.{power-up};
+ghost use Rattle.protocol.specs.Settings.{power-up, acts-as};
 
 // A byte for each axis of the mouse: thresholds, scales, deltas.
 pub struct Axes {
@@ -122,6 +122,14 @@ pub struct Command {
     pub pending: u8,
 }
 
+// What a host byte came to: a whole command with its code and parameters, or not; and the half-received command afterwards.
+pub struct Received {
+    pub whole: bool,
+    pub code: u8,
+    pub params: [u8; 6],
+    pub command: Command,
+}
+
 impl Settings {
     pub fn power_up() -> Self
         ensures { λ r. ⌜ r ≡ power-up ⌝ }
@@ -151,4 +159,11 @@ impl Command {
             pending: 0,
         }
     }
+}
+
+// A threshold, scale, delta or rate of 0 acts as 1.
+pub fn acts_as(n: u8) -> u8
+    ensures { λ r. ⌜ r ≡ acts-as n ⌝ }
+{
+    if n == 0 { 1 } else { n }
 }

@@ -4,13 +4,15 @@ use mathlib.Core.Bool.{Bool, true, false, cond}
 use mathlib.Core.List.{List, []}
 use lib.Dec.{eqb}
 use Rattle.output.specs.ScanCodes.{arrow-right, arrow-left, arrow-up, arrow-down}
-use Rattle.output.specs.Packets.{Packet, bit}
+use Rattle.output.specs.Packets.{Packet, bit, bytes}
+use Rattle.output.specs.Short.{short-of}
 use Rattle.protocol.specs.declared.StickMode.{StickMode}
 use Rattle.protocol.specs.declared.StickMode.the-variants.{Event, Interrogation, Monitoring, Fire, Cursor}
 use Rattle.protocol.specs.Settings.{acts-as}
 use Rattle.sticks.specs.declared.Stick.{Stick}
 use Rattle.sticks.specs.declared.Count.{Count}
 use Rattle.sticks.specs.declared.Sticks.{Sticks}
+use Rattle.sticks.specs.declared.SticksTold.{SticksTold}
 
 -- "position 0 to 15"
 abbrev pub most-position : ℕ
@@ -69,6 +71,10 @@ pub record SticksDue : Type 0 where
 
 abbrev pub quiet : Sticks → SticksDue
 quiet s = record { packets = []; sticks = s }
+
+-- how the code hands it on
+abbrev pub told-of : SticksDue → SticksTold
+told-of d = record { short = short-of (bytes (d .packets)); sticks = d .sticks }
 
 -- the same for the repeat counts of one axis
 pub record CountDue : Type 0 where

@@ -1,6 +1,7 @@
 // The joysticks: where both stand, the repeat counts of keycode mode, and what the two monitoring modes have gathered.
 ghost use mathlib.Core.Path.{_≡_};
 ghost use Rattle.sticks.specs.Sticks.{at-power-up};
+use output::Short;
 
 // Bits 0 to 3 of the position are up, down, left, right.
 pub struct Stick {
@@ -23,6 +24,12 @@ pub struct Sticks {
     pub ticks: u8,
     pub samples: u8,
     pub bits: u8,
+}
+
+// What something that happens to the sticks comes to: the bytes due, and the sticks afterwards.
+pub struct SticksTold {
+    pub short: Short,
+    pub sticks: Sticks,
 }
 
 impl Sticks {
