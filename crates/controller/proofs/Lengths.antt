@@ -41,7 +41,7 @@ use Rattle.controller.specs.declared.Answer.{Answer}
 use Rattle.controller.specs.declared.Answer.the-variants.{Taken, OutOfRange, QueueFull, MotionFull, BufferShort}
 use Rattle.controller.specs.State.{IsState, IsQueue, contents, queue-room, longest-reply, most-due}
 use Rattle.controller.specs.Host.{Due, mouse-effect, stick-effect, other-effect, effect, resumed-packets, resumed-mouse, acted, reset-due, executes, host-due, reading, silent}
-use Rattle.controller.specs.Events.{happened, key-packets, stick-of}
+use Rattle.controller.specs.Events.{happened, key-packets, stick-of, event, event-due}
 use Rattle.controller.specs.Step.{due, in-range, most-move, out-of-range, queue-full, motion-full, buffer-short, verdict, told, step}
 use Rattle.controller.proofs.States.{contents-length}
 
@@ -130,7 +130,7 @@ moves-length s dx dy h r e =
 
 -- "At most 8,264 bytes are ever due at once."
 due-length : (s : State) (i : Input) → IsState s → in-range i ≡ true → length (due s i .written) ≤ most-due
-unfolding due
+unfolding due event-due event
 due-length s (Byte b) h r = host-length (feed (s .command) b) s h
 due-length s (Key code down) h r = happened-length most-due _ _ _ _ s (λ _. omega (arith, key-length (s .settings) code down))
 due-length s (Button side down) h r =

@@ -3,3 +3,4 @@ pub mod Refusals
 pub mod States
 pub mod Lengths
 pub mod Examples
+pub mod Answers

@@ -47,7 +47,7 @@ use Rattle.controller.specs.declared.Answer.{Answer}
 use Rattle.controller.specs.declared.Answer.the-variants.{Taken, OutOfRange, QueueFull, MotionFull, BufferShort}
 use Rattle.controller.specs.State.{IsState, IsQueue, OneQueue, contents, queue-of, queue-room, empty-queue, power-up}
 use Rattle.controller.specs.Host.{Due, Effect, mouse-effect, stick-effect, other-effect, effect, resumed-mouse, acted, reset-due, executes, host-due, reading, silent}
-use Rattle.controller.specs.Events.{happened}
+use Rattle.controller.specs.Events.{happened, event, event-due}
 use Rattle.controller.specs.Step.{due, IsInput, in-range, up-to, out-of-range, queue-full, too-far, motion-full, buffer-short, verdict, told, step}
 
 -- the queue, in range and in its one spelling
@@ -254,7 +254,7 @@ small most (negsuc n) e = absurd (true≢false (sym e))
 -- What an input leads to, where the first three refusals do not hold.
 due-is : (s : State) (i : Input) (lent : ℕ) → IsState s → IsInput i → in-range i ≡ true → queue-full s i lent ≡ false → motion-full s i lent ≡ false →
     IsState (due s i .state)
-unfolding due in-range motion-full too-far
+unfolding due event-due event in-range motion-full too-far
 due-is s (Byte b) lent h x r q f = host-is (feed (s .command) b) s (fed-is (s .command) b (h .ranges .command) (h .spelling .command) x) h
 due-is s (Key code down) lent h x r q f = happened-is _ (s .mouse) (s .sticks) (s .clock) s h (room-left s (Key code down) lent q) (parts-of h .mouse) (parts-of h .sticks) (h .ranges .clock)
 due-is s (Button side down) lent h x r q f =

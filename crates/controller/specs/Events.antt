@@ -21,8 +21,10 @@ use Rattle.sticks.specs.Sticks.{SticksDue}
 use Rattle.sticks.specs.Events.{moved}
 use Rattle.sticks.specs.Ticks.{ticked, sampled}
 use Rattle.controller.specs.declared.State.{State}
+use Rattle.controller.specs.declared.Input.{Input}
+use Rattle.controller.specs.declared.Input.the-variants.{Byte, Key, Button, Move, Joystick, Sample, Tick}
 use Rattle.controller.specs.State.{contents, queue-of}
-use Rattle.controller.specs.Host.{Due, silent}
+use Rattle.controller.specs.Host.{Due, Effect}
 
 -- The packets of an event and the parts it changes: not paused they are written; "Paused bytes of keys, buttons and sticks go to the queue".
 unfoldable pub happened : List Packet → Mouse → Sticks → Clock → State → Due
@@ -46,32 +48,29 @@ happened ps m k t s = record {
 unfoldable pub key-packets : Settings → ℕ → Bool → List Packet
 key-packets σ code down = cond (monitors (σ .stick)) [] (scan (code-sent code down) ∷ [])
 
-abbrev pub of-mouse : MouseDue → State → Due
-of-mouse d s = happened (d .packets) (d .mouse) (s .sticks) (s .clock) s
+-- the parts of an effect on the mouse, and on the joysticks
+abbrev pub of-mouse : MouseDue → Sticks → Clock → Effect
+of-mouse d k t = record { packets = d .packets; mouse = d .mouse; sticks = k; clock = t }
 
-abbrev pub of-sticks : SticksDue → Clock → State → Due
-of-sticks d t s = happened (d .packets) (s .mouse) (d .sticks) t s
+abbrev pub of-sticks : SticksDue → Mouse → Clock → Effect
+of-sticks d m t = record { packets = d .packets; mouse = m; sticks = d .sticks; clock = t }
 
 -- the stick that an event's numbers tell
 abbrev pub stick-of : ℤ → ℤ → Stick
 stick-of position trigger = record { position = natAbs position; trigger = eqb (natAbs trigger) 1 }
 
-abbrev pub key-due : ℕ → Bool → State → Due
-key-due code down s = happened (key-packets (s .settings) code down) (s .mouse) (s .sticks) (s .clock) s
+-- What each event does, given whether output is paused, the settings and the parts; a tick always moves the clock. (A host byte is no event.)
+unfoldable pub event : Input → Bool → Settings → Mouse → Sticks → Clock → Effect
+event (Byte b) paused σ m k t = record { packets = []; mouse = m; sticks = k; clock = t }
+event (Key code down) paused σ m k t = record { packets = key-packets σ code down; mouse = m; sticks = k; clock = t }
+event (Button side down) paused σ m k t = of-mouse (presses σ side down m) k t
+event (Move dx dy) paused σ m k t = of-mouse (moves paused σ dx dy m) k t
+event (Joystick which position trigger) paused σ m k t = of-sticks (moved σ (eqb (natAbs which) 1) (stick-of position trigger) k) m t
+event (Sample b) paused σ m k t = of-sticks (sampled paused σ (natAbs b) k) m t
+event Tick paused σ m k t = of-sticks (ticked paused σ k) m (tick t)
 
-abbrev pub button-due : Side → Bool → State → Due
-button-due side down s = of-mouse (presses (s .settings) side down (s .mouse)) s
-
-abbrev pub move-due : ℤ → ℤ → State → Due
-move-due dx dy s = of-mouse (moves (s .paused) (s .settings) dx dy (s .mouse)) s
-
-abbrev pub joystick-due : ℤ → ℤ → ℤ → State → Due
-joystick-due which position trigger s =
-    of-sticks (moved (s .settings) (eqb (natAbs which) 1) (stick-of position trigger) (s .sticks)) (s .clock) s
-
-abbrev pub sample-due : ℤ → State → Due
-sample-due b s = of-sticks (sampled (s .paused) (s .settings) (natAbs b) (s .sticks)) (s .clock) s
-
--- "Each tick": the clock always moves
-abbrev pub tick-due : State → Due
-tick-due s = of-sticks (ticked (s .paused) (s .settings) (s .sticks)) (tick (s .clock)) s
+-- an event, on a state
+unfoldable pub event-due : Input → State → Due
+event-due i s =
+    let e = event i (s .paused) (s .settings) (s .mouse) (s .sticks) (s .clock) in
+    happened (e .packets) (e .mouse) (e .sticks) (e .clock) s

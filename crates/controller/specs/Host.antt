@@ -41,7 +41,7 @@ pub record Due : Type 0 where
 abbrev pub silent : State → Due
 silent s = record { packets = []; written = []; queued = []; dropped = []; state = s }
 
--- what an executed command does besides the settings: its own packet, and the parts of the state
+-- what an executed command does besides the settings, or an event: its packets, and the parts of the state
 pub record Effect : Type 0 where
   pub packets : List Packet
   pub mouse : Mouse

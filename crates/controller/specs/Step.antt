@@ -10,6 +10,8 @@ use Rattle.output.specs.ScanCodes.{first-key, last-key}
 use Rattle.output.specs.Packets.{Packet}
 use Rattle.output.specs.Writing.{over}
 use Rattle.protocol.specs.Reading.{feed}
+use Rattle.protocol.specs.declared.Settings.{Settings}
+use Rattle.mouse.specs.declared.Mouse.{Mouse}
 use Rattle.mouse.specs.Moves.{overflows}
 use Rattle.sticks.specs.Sticks.{most-position}
 use Rattle.controller.specs.declared.State.{State}
@@ -20,7 +22,7 @@ use Rattle.controller.specs.declared.Answer.{Answer}
 use Rattle.controller.specs.declared.Answer.the-variants.{Taken, OutOfRange, QueueFull, MotionFull, BufferShort}
 use Rattle.controller.specs.State.{queue-room}
 use Rattle.controller.specs.Host.{Due, host-due}
-use Rattle.controller.specs.Events.{key-due, button-due, move-due, joystick-due, sample-due, tick-due}
+use Rattle.controller.specs.Events.{event-due}
 
 -- what the machine's types say of an input, and nothing more
 abbrev pub IsInput : Input → Type 0
@@ -35,12 +37,12 @@ IsInput Tick = Unit {0}
 -- what an input leads to if it is taken
 unfoldable pub due : State → Input → Due
 due s (Byte b) = host-due (feed (s .command) b) s
-due s (Key code down) = key-due code down s
-due s (Button side down) = button-due side down s
-due s (Move dx dy) = move-due dx dy s
-due s (Joystick stick position trigger) = joystick-due stick position trigger s
-due s (Sample b) = sample-due b s
-due s Tick = tick-due s
+due s (Key code down) = event-due (Key code down) s
+due s (Button side down) = event-due (Button side down) s
+due s (Move dx dy) = event-due (Move dx dy) s
+due s (Joystick stick position trigger) = event-due (Joystick stick position trigger) s
+due s (Sample b) = event-due (Sample b) s
+due s Tick = event-due Tick s
 
 -- "dx, dy each -64 to 64"
 abbrev pub most-move : ℕ
@@ -70,19 +72,19 @@ out-of-range s i lent = not (in-range i)
 unfoldable pub queue-full : State → Input → ℕ → Bool
 queue-full s i lent = s .paused && ltb queue-room (s .queue .len + length (due s i .queued))
 
--- the motion of an input would go too far
-unfoldable pub too-far : State → Input → Bool
-too-far s (Byte b) = false
-too-far s (Key code down) = false
-too-far s (Button side down) = false
-too-far s (Move dx dy) = overflows (s .settings) dx dy (s .mouse)
-too-far s (Joystick stick position trigger) = false
-too-far s (Sample b) = false
-too-far s Tick = false
+-- held motion would go too far by this input
+unfoldable pub too-far : Input → Settings → Mouse → Bool
+too-far (Byte b) σ m = false
+too-far (Key code down) σ m = false
+too-far (Button side down) σ m = false
+too-far (Move dx dy) σ m = overflows σ dx dy m
+too-far (Joystick stick position trigger) σ m = false
+too-far (Sample b) σ m = false
+too-far Tick σ m = false
 
 -- 3: "paused, mouse live in relative or keycode mode, and held motion on an axis would leave -2,032 to 2,032"
 unfoldable pub motion-full : State → Input → ℕ → Bool
-motion-full s i lent = s .paused && too-far s i
+motion-full s i lent = s .paused && too-far i (s .settings) (s .mouse)
 
 -- 4: "the bytes due now are more than the lent buffer's length"
 unfoldable pub buffer-short : State → Input → ℕ → Bool

@@ -3,7 +3,9 @@ ghost use mathlib.Core.Path.{_≡_};
 ghost use Rattle.controller.specs.State.{power-up, empty-queue, limits};
 use clock::Clock;
 use mouse::Mouse;
+use mouse::Sending;
 use mouse::Side;
+use output::Short;
 use protocol::Command;
 use protocol::Settings;
 use sticks::Sticks;
@@ -68,6 +70,23 @@ pub struct Limits {
     pub queue: usize,
     pub held: u16,
     pub buffer: usize,
+}
+
+// What an event comes to before it is sent or queued: held motion that is sent, a short run of bytes, and the parts afterwards.
+pub struct Happening {
+    pub sending: Sending,
+    pub short: Short,
+    pub mouse: Mouse,
+    pub sticks: Sticks,
+    pub clock: Clock,
+}
+
+// What an executed command does besides the settings: its own packet, and the parts afterwards.
+pub struct Acted {
+    pub short: Short,
+    pub mouse: Mouse,
+    pub sticks: Sticks,
+    pub clock: Clock,
 }
 
 impl Queue {

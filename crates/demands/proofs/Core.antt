@@ -16,7 +16,7 @@ use Rattle.controller.specs.declared.Input.the-variants.{Byte, Key, Button, Mov
 use Rattle.controller.specs.declared.Answer.{Answer}
 use Rattle.controller.specs.declared.Answer.the-variants.{Taken, OutOfRange, QueueFull, MotionFull, BufferShort}
 use Rattle.controller.specs.Host.{Due, silent, reading, acted, reset-due, executes, host-due}
-use Rattle.controller.specs.Events.{happened}
+use Rattle.controller.specs.Events.{happened, event-due}
 use Rattle.controller.specs.Step.{due, told, verdict, step}
 use Rattle.controller.specs.Sequences.{Turn, Done, after, history, byte-taken, bytes-taken}
 use Rattle.demands.specs.Demand3.{taken, seen, seen-in}
@@ -70,7 +70,7 @@ event-core MotionFull s d e = refl
 event-core BufferShort s d e = refl
 
 told-core : (a : Answer) (s : State) (i : Input) → core (told a s (due s i) .state) ≡ eats (core s) (byte-taken i (told a s (due s i) .answer))
-unfolding told due happened
+unfolding told due happened event-due
 told-core Taken s (Byte b) = host-core (feed (s .command) b) s
 told-core OutOfRange s (Byte b) = refl
 told-core QueueFull s (Byte b) = refl

@@ -27,10 +27,10 @@ use Rattle.sticks.specs.Commands.{left-from, mouse-commanded}
 use Rattle.sticks.specs.Commands as of-sticks-commands
 use Rattle.controller.specs.State.{queue-of}
 use Rattle.controller.specs.Host.{mouse-effect, stick-effect, other-effect, effect, acted, reset-due, executes, host-due, resets}
-use Rattle.controller.specs.Events.{happened, key-packets}
+use Rattle.controller.specs.Events.{happened, key-packets, event, event-due}
 use Rattle.controller.specs.Step.{due, in-range, out-of-range, queue-full, too-far, motion-full, buffer-short, verdict, told, step}
 use Rattle.controller.specs.Sequences.{after, history, bytes-taken, all-written}
 
 unfoldable pub rules : Unit {0}
-unfolding pairs over reaches quotient remainder part left-over byte packets-needed of-motion-motion.moved month-length next-year next-month next-day next-hour next-minute next-second tick field set-to of-clock-setting.report table find line begin take-parameter take-data feed command-after mouse-executed stick-executed executed mouse-sets stick-sets other-sets sets settings-then settings-after reply live gathers held-most split send-all of-mouse-reports.report incoming of-mouse-moves.gathered either-reaches arrows keyed steered motion-due released applied moves overflows live-button presses of-mouse-commands.commanded horizontal vertical heard steers reported trigger-keys turned turned-x turned-y cursor-moved moved-in of-sticks-events.moved both monitored interval repeated aged both-aged ticked-in ticked of-sticks-ticks.gathered sampled-in sampled left-from of-sticks-commands.commanded mouse-commanded queue-of mouse-effect stick-effect other-effect effect acted reset-due executes host-due resets happened key-packets due in-range out-of-range queue-full too-far motion-full buffer-short verdict told step after history bytes-taken all-written
+unfolding pairs over reaches quotient remainder part left-over byte packets-needed of-motion-motion.moved month-length next-year next-month next-day next-hour next-minute next-second tick field set-to of-clock-setting.report table find line begin take-parameter take-data feed command-after mouse-executed stick-executed executed mouse-sets stick-sets other-sets sets settings-then settings-after reply live gathers held-most split send-all of-mouse-reports.report incoming of-mouse-moves.gathered either-reaches arrows keyed steered motion-due released applied moves overflows live-button presses of-mouse-commands.commanded horizontal vertical heard steers reported trigger-keys turned turned-x turned-y cursor-moved moved-in of-sticks-events.moved both monitored interval repeated aged both-aged ticked-in ticked of-sticks-ticks.gathered sampled-in sampled left-from of-sticks-commands.commanded mouse-commanded queue-of mouse-effect stick-effect other-effect effect acted reset-due executes host-due resets happened key-packets event event-due due in-range out-of-range queue-full too-far motion-full buffer-short verdict told step after history bytes-taken all-written
 rules = tt

@@ -37,32 +37,9 @@ use Rattle.controller.specs.State.{power-up, queue-of, empty-queue, IsState}
 use Rattle.controller.specs.Sequences.{Turn, after}
 use Rattle.demands.specs.Demand3.{Seen, seen-in, taken, NoOther, last-8, Kept, Asking, SendingBack}
 use Rattle.demands.proofs.PutBack.{put-back}
-use Rattle.output.specs.Packets as packets
-use Rattle.motion.specs.Motion as motion
-use Rattle.clock.specs.Clock as clock
-use Rattle.clock.specs.Setting as clock-setting
+use Rattle.demands.proofs.Rules.{rules}
 use Rattle.mouse.specs.Mouse as mouse
-use Rattle.mouse.specs.Moves as moving
-use Rattle.mouse.specs.Reports as reports
-use Rattle.mouse.specs.Buttons as buttons
-use Rattle.mouse.specs.Commands as mouse-commands
 use Rattle.sticks.specs.Sticks as sticks
-use Rattle.sticks.specs.Events as stick-events
-use Rattle.sticks.specs.Ticks as ticks
-use Rattle.sticks.specs.Commands as stick-commands
-use Rattle.protocol.specs.Codes as codes
-use Rattle.protocol.specs.Reading as reading
-use Rattle.protocol.specs.Commands as commands
-use Rattle.protocol.specs.Replies as replies
-use Rattle.controller.specs.Host as taking
-use Rattle.controller.specs.Events as events
-use Rattle.controller.specs.Step as stepping
-use Rattle.controller.specs.Sequences as sequences
-
--- all the rules, so that sequences compute
-rules : Unit {0}
-unfolding packets.pairs motion.reaches motion.quotient motion.remainder motion.part motion.left-over motion.byte motion.packets-needed motion.moved clock.month-length clock.next-year clock.next-month clock.next-day clock.next-hour clock.next-minute clock.next-second clock.tick clock-setting.field clock-setting.set-to clock-setting.report mouse.live mouse.gathers mouse.held-most moving.incoming moving.gathered moving.either-reaches moving.arrows moving.keyed moving.steered moving.motion-due moving.released moving.applied moving.moves moving.overflows reports.split reports.send-all reports.report buttons.live-button buttons.presses mouse-commands.commanded sticks.horizontal sticks.vertical stick-events.heard stick-events.steers stick-events.reported stick-events.trigger-keys stick-events.turned stick-events.turned-x stick-events.turned-y stick-events.cursor-moved stick-events.moved-in stick-events.moved ticks.both ticks.monitored ticks.interval ticks.repeated ticks.aged ticks.both-aged ticks.ticked-in ticks.ticked ticks.gathered ticks.sampled-in ticks.sampled stick-commands.left-from stick-commands.commanded stick-commands.mouse-commanded codes.table codes.find codes.line reading.begin reading.take-parameter reading.take-data reading.feed reading.command-after commands.mouse-executed commands.stick-executed commands.executed commands.mouse-sets commands.stick-sets commands.other-sets commands.sets commands.settings-then commands.settings-after replies.reply queue-of taking.mouse-effect taking.stick-effect taking.other-effect taking.effect taking.acted taking.reset-due taking.executes taking.host-due events.happened events.key-packets stepping.due stepping.in-range stepping.out-of-range stepping.queue-full stepping.too-far stepping.motion-full stepping.buffer-short stepping.verdict stepping.told stepping.step sequences.after sequences.history taken
-rules = tt
 
 -- an input, with a buffer of this length
 abbrev given : Input → ℕ → Turn
@@ -151,7 +128,7 @@ mouse-start =
     (record { x = record { plus = 9; minus = 0 }; y = record { plus = 0; minus = 5 } })
 
 mouse-start-is : IsState mouse-start
-unfolding mouse-start rules
+unfolding mouse-start rules taken
 mouse-start-is = record {
   ranges = record { settings = omega arith; command = omega arith; queue = omega arith; mouse = omega arith; sticks = omega arith; clock = omega arith };
   spelling = record { command = refl; queue = refl; mouse = omega arith; sticks = omega arith };
@@ -162,7 +139,7 @@ mouse-start-reached : after power-up (
     host (0x19 ∷ 1 ∷ 2 ∷ 3 ∷ 4 ∷ 5 ∷ 6 ∷ 0x1A ∷ 0x0B ∷ 5 ∷ 6 ∷ 0x0C ∷ 7 ∷ 8 ∷ 0x0F ∷ 0x07 ∷ 3 ∷ 0x0A ∷ 4 ∷ 2 ∷ 0x13 ∷ [])
     ++ (given (Key 0x1E true) 0 ∷ given (Key 0x1E false) 0 ∷ given (Move (pos 9) (negsuc 4)) 0 ∷ [])
     ) ≡ mouse-start
-unfolding mouse-start rules
+unfolding mouse-start rules taken
 mouse-start-reached = refl
 
 -- By the first inquiry 18 bytes are due: two queued, four key pairs of the motion, and the reply. Refused for want of room are a byte of another
@@ -174,11 +151,11 @@ mouse-asking =
     ∷ ask AskMouseOff 8 ∷ given Tick 0 ∷ ask AskStick 9 ∷ ask AskSticksOff 7 ∷ ask AskSticksOff 8 ∷ []
 
 mouse-answers : answers (seen-in mouse-start mouse-asking) ≡ 4 ∷ 4 ∷ 0 ∷ 0 ∷ 0 ∷ 0 ∷ 0 ∷ 1 ∷ 0 ∷ 0 ∷ 0 ∷ 4 ∷ 0 ∷ 0 ∷ 0 ∷ 4 ∷ 0 ∷ []
-unfolding mouse-start mouse-asking rules
+unfolding mouse-start mouse-asking rules taken
 mouse-answers = refl
 
 mouse-replies : (q : Inquiry) → Kept (seen-in mouse-start mouse-asking) q (kept-bytes q mouse-settings)
-unfolding mouse-start mouse-asking rules
+unfolding mouse-start mouse-asking rules taken
 mouse-replies AskAction = kept-at 2 refl refl refl refl
 mouse-replies AskMouse = kept-at 3 refl refl refl refl
 mouse-replies AskThreshold = kept-at 6 refl refl refl refl
@@ -190,7 +167,7 @@ mouse-replies AskSticksOff = kept-at 16 refl refl refl refl
 
 -- the eight are asked, port 0 a mouse
 pub mouse-asked : Asking mouse-start (seen-in mouse-start mouse-asking) (λ q. kept-bytes q mouse-settings)
-unfolding mouse-start mouse-asking rules all-pass
+unfolding mouse-start mouse-asking rules taken all-pass
 mouse-asked = record { outside = refl; between = refl; no-other = none-other (taken (seen-in mouse-start mouse-asking)) refl; replies = mouse-replies }
 
 -- another state: mouse off, interrogation mode, paused with a byte in the queue
@@ -198,7 +175,7 @@ unfoldable pub mouse-later : State
 mouse-later = state-of (with-stick Interrogation (without-mouse settings.power-up)) true (record { bytes = 0x1E ∷ replicate 127 0; len = 1 }) at-rest
 
 mouse-later-is : IsState mouse-later
-unfolding mouse-later rules
+unfolding mouse-later rules taken
 mouse-later-is = record {
   ranges = record { settings = omega arith; command = omega arith; queue = omega arith; mouse = omega arith; sticks = omega arith; clock = omega arith };
   spelling = record { command = refl; queue = refl; mouse = omega arith; sticks = omega arith };
@@ -214,7 +191,7 @@ mouse-rest =
     ∷ 0x0B ∷ 5 ∷ 6 ∷ 0 ∷ 0 ∷ 0 ∷ 0 ∷ 0x0C ∷ 7 ∷ 8 ∷ 0 ∷ 0 ∷ 0 ∷ 0 ∷ 0x0F ∷ 0 ∷ 0 ∷ 0 ∷ 0 ∷ 0 ∷ 0 ∷ 0 ∷ 0 ∷ 0 ∷ 0 ∷ 0 ∷ 0 ∷ 0 ∷ []
 
 mouse-order : in-order (mouse-start .settings .port0) (λ q. kept-bytes q mouse-settings) ≡ mouse-first ++ mouse-rest
-unfolding mouse-start rules
+unfolding mouse-start rules taken
 mouse-order = refl
 
 -- the kept bytes, with a key out of range among them, and before the seventh another byte in its place, refused for want of room
@@ -222,17 +199,17 @@ unfoldable pub mouse-sending : List Turn
 mouse-sending = host mouse-first ++ (given (Byte 9) 0 ∷ given (Key 0x73 true) 0 ∷ host mouse-rest)
 
 mouse-taken : taken (seen-in mouse-later mouse-sending) ≡ mouse-first ++ mouse-rest
-unfolding mouse-later mouse-sending rules
+unfolding mouse-later mouse-sending rules taken
 mouse-taken = refl
 
 -- they are sent back, exactly
 pub mouse-sent : SendingBack mouse-later (seen-in mouse-later mouse-sending) (in-order (mouse-start .settings .port0) (λ q. kept-bytes q mouse-settings))
-unfolding mouse-later rules
+unfolding mouse-later rules taken
 mouse-sent = record { between = refl; exactly = mouse-taken ∙ sym mouse-order }
 
 -- two of those inputs are refused
 mouse-sent-answers : take 9 (answers (seen-in mouse-later mouse-sending)) ≡ 0 ∷ 0 ∷ 0 ∷ 0 ∷ 0 ∷ 0 ∷ 4 ∷ 1 ∷ 0 ∷ []
-unfolding mouse-later mouse-sending rules
+unfolding mouse-later mouse-sending rules taken
 mouse-sent-answers = refl
 
 -- so the demand speaks of them: the settings are again those asked for
@@ -258,7 +235,7 @@ unfoldable pub joystick-start : State
 joystick-start = state-of joystick-settings false empty-queue at-rest
 
 joystick-start-is : IsState joystick-start
-unfolding joystick-start rules
+unfolding joystick-start rules taken
 joystick-start-is = record {
   ranges = record { settings = omega arith; command = omega arith; queue = omega arith; mouse = omega arith; sticks = omega arith; clock = omega arith };
   spelling = record { command = refl; queue = refl; mouse = omega arith; sticks = omega arith };
@@ -268,7 +245,7 @@ joystick-start-is = record {
 joystick-start-reached : after power-up (host (
     0x0B ∷ 5 ∷ 6 ∷ 0x0C ∷ 7 ∷ 8 ∷ 0x0F ∷ 0x07 ∷ 4 ∷ 0x09 ∷ 0x01 ∷ 0x3F ∷ 0x00 ∷ 0xC7 ∷ 0x12 ∷ 0x19 ∷ 1 ∷ 2 ∷ 3 ∷ 4 ∷ 5 ∷ 6 ∷ []
     )) ≡ joystick-start
-unfolding joystick-start rules
+unfolding joystick-start rules taken
 joystick-start-reached = refl
 
 -- one of the eight is asked twice, and stick and trigger events come between
@@ -278,7 +255,7 @@ joystick-asking =
     ∷ given (Joystick (pos 0) (pos 16) (pos 1)) 8 ∷ ask AskScale 8 ∷ ask AskThreshold 8 ∷ ask AskMouse 8 ∷ ask AskAction 8 ∷ []
 
 joystick-replies : (q : Inquiry) → Kept (seen-in joystick-start joystick-asking) q (kept-bytes q joystick-settings)
-unfolding joystick-start joystick-asking rules
+unfolding joystick-start joystick-asking rules taken
 joystick-replies AskAction = kept-at 10 refl refl refl refl
 joystick-replies AskMouse = kept-at 9 refl refl refl refl
 joystick-replies AskThreshold = kept-at 8 refl refl refl refl
@@ -290,7 +267,7 @@ joystick-replies AskSticksOff = kept-at 0 refl refl refl refl
 
 -- the eight are asked, port 0 a joystick
 pub joystick-asked : Asking joystick-start (seen-in joystick-start joystick-asking) (λ q. kept-bytes q joystick-settings)
-unfolding joystick-start joystick-asking rules all-pass
+unfolding joystick-start joystick-asking rules taken all-pass
 joystick-asked = record { outside = refl; between = refl; no-other = none-other (taken (seen-in joystick-start joystick-asking)) refl; replies = joystick-replies }
 
 -- another state: fire monitoring
@@ -298,7 +275,7 @@ unfoldable pub joystick-later : State
 joystick-later = state-of (with-stick Fire settings.power-up) false empty-queue at-rest
 
 joystick-later-is : IsState joystick-later
-unfolding joystick-later rules
+unfolding joystick-later rules taken
 joystick-later-is = record {
   ranges = record { settings = omega arith; command = omega arith; queue = omega arith; mouse = omega arith; sticks = omega arith; clock = omega arith };
   spelling = record { command = refl; queue = refl; mouse = omega arith; sticks = omega arith };
@@ -312,19 +289,19 @@ joystick-kept =
     ∷ 0x19 ∷ 1 ∷ 2 ∷ 3 ∷ 4 ∷ 5 ∷ 6 ∷ 0 ∷ 0 ∷ 0 ∷ 0 ∷ 0 ∷ 0 ∷ 0 ∷ []
 
 joystick-order : in-order (joystick-start .settings .port0) (λ q. kept-bytes q joystick-settings) ≡ joystick-kept
-unfolding joystick-start rules
+unfolding joystick-start rules taken
 joystick-order = refl
 
 unfoldable pub joystick-sending : List Turn
 joystick-sending = given Tick 0 ∷ host joystick-kept
 
 joystick-taken : taken (seen-in joystick-later joystick-sending) ≡ joystick-kept
-unfolding joystick-later joystick-sending rules
+unfolding joystick-later joystick-sending rules taken
 joystick-taken = refl
 
 -- they are sent back, exactly
 pub joystick-sent : SendingBack joystick-later (seen-in joystick-later joystick-sending) (in-order (joystick-start .settings .port0) (λ q. kept-bytes q joystick-settings))
-unfolding joystick-later rules
+unfolding joystick-later rules taken
 joystick-sent = record { between = refl; exactly = joystick-taken ∙ sym joystick-order }
 
 -- so the demand speaks of them: the settings are again those asked for
