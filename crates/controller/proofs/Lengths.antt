@@ -53,7 +53,7 @@ other-length MouseOff ps m k t = omega arith
 other-length SetClock ps m k t = omega arith
 other-length ReportClock ps m k t = omega arith
 
-effect-length : (c : Meaning) (ps : List ℕ) (σ : Settings) (m : Mouse) (k : Sticks) (t : Clock) → length (bytes (effect c ps σ m k t .packets)) ≤ longest-reply
+pub effect-length : (c : Meaning) (ps : List ℕ) (σ : Settings) (m : Mouse) (k : Sticks) (t : Clock) → length (bytes (effect c ps σ m k t .packets)) ≤ longest-reply
 unfolding effect mouse-effect stick-effect
 effect-length Nothing ps σ m k t = omega arith
 effect-length Memory ps σ m k t = omega arith

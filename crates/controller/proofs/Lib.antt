@@ -4,3 +4,6 @@ pub mod States
 pub mod Lengths
 pub mod Examples
 pub mod Answers
+pub mod Numbers
+pub mod Results
+pub mod Tells

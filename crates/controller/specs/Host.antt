@@ -159,6 +159,17 @@ host-due (half c) s = silent (reading (half c) s)
 host-due (whole code ps) s =
     cond (executed (meaning-of code) ps (s .settings)) (executes (meaning-of code) ps s) (silent (reading (whole code ps) s))
 
+-- "0x13 pauses"
+abbrev pub is-pause : Meaning → Bool
+is-pause Nothing = false
+is-pause Memory = false
+is-pause Pause = true
+is-pause Reset = false
+is-pause (OfMouse c) = false
+is-pause (OfStick c) = false
+is-pause (OfOther c) = false
+is-pause (Inquire q) = false
+
 -- "0x80 then 0x01 resets": the byte that came completes a reset that is executed
 abbrev pub is-reset : Meaning → Bool
 is-reset Nothing = false

@@ -24,10 +24,10 @@ use Rattle.controller.specs.State.{queue-room}
 use Rattle.controller.specs.Host.{Due, host-due}
 use Rattle.controller.specs.Events.{event-due}
 
--- what the machine's types say of an input, and nothing more
+-- what the machine's types say of an input, and the theorems take: a host byte is a byte
 abbrev pub IsInput : Input → Type 0
 IsInput (Byte b) = b ≤ 255
-IsInput (Key code down) = code ≤ 255
+IsInput (Key code down) = Unit {0}
 IsInput (Button side down) = Unit {0}
 IsInput (Move dx dy) = Unit {0}
 IsInput (Joystick stick position trigger) = Unit {0}

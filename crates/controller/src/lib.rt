@@ -1,3 +1,5 @@
+mod event;
+
 // The controller: its state, what goes in and what comes out of a step.
 ghost use mathlib.Core.Path.{_≡_};
 ghost use Rattle.controller.specs.State.{power-up, empty-queue, limits};

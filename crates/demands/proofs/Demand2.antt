@@ -17,7 +17,7 @@ pub demand-2-steps : Demand2-steps
 demand-2-steps s i lent h = record { in-order = step-delivers s i lent (h .ranges .queue); only-reset-drops = step-drops s i lent }
 
 -- one step in front of a sequence
-joined : (queue now written-now dropped-now then rest gone last : List ℕ) →
+pub joined : (queue now written-now dropped-now then rest gone last : List ℕ) →
     queue ++ now ≡ dropped-now ++ (written-now ++ then) → then ++ rest ≡ gone ++ last →
     queue ++ (now ++ rest) ≡ ((dropped-now ++ written-now) ++ gone) ++ last
 joined queue now written-now dropped-now then rest gone last e f =

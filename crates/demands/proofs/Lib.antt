@@ -1,6 +1,7 @@
 pub mod States
 pub mod Demand1
 pub mod Demand2
+pub mod Calls
 pub mod Core
 pub mod Asking
 pub mod PutBack

@@ -3,9 +3,7 @@
 use Prim.Native.Nat.{ℕ}
 use mathlib.Core.Path.{_≡_, refl, sym, ap, ap₂, _∙_, subst, fun-ext}
 use mathlib.Core.List.{List, [], _∷_, map}
-use lib.ListN.{length, take, drop}
-use lib.Seq.{take-at}
-use Rattle.output.specs.Writing.{over}
+use lib.ListN.{length}
 use Rattle.protocol.specs.Replies.{in-order}
 use Rattle.protocol.proofs.Core.{Core, eats}
 use Rattle.protocol.proofs.PutBack as protocol
@@ -17,6 +15,7 @@ use Rattle.controller.specs.Step.{number, Did, due, told, verdict, step}
 use Rattle.controller.specs.Sequences.{Turn, done, after, history}
 use Rattle.demands.specs.Demand3.{Seen, seen, seen-in, Asking, SendingBack, Demand3}
 use Rattle.demands.specs.Calls.{Call, Calls, seen-of, Demand3-of-calls}
+use Rattle.demands.proofs.Calls.{call-wrote}
 use Rattle.demands.proofs.Core.{core, run-core}
 use Rattle.demands.proofs.Asking.{kept-is}
 
@@ -43,11 +42,9 @@ turn c = record { input = c .input; lent = length (c .before) }
 
 -- a call comes to what the definition says
 seen-is : (s : State) (c : Call) → Did s (c .input) (c .before) (c .result) (c .buffer) → seen-of c ≡ seen (done s (turn c))
-unfolding step over
+unfolding step
 seen-is s c p =
-    let w = step s (c .input) (length (c .before)) .written in
-    let e : take (c .result .count) (c .buffer) ≡ w =
-    rw (p .buffer) (take-at w (drop (length w) (c .before)) (c .result .count) (sym (p .count))) in
+    let e = call-wrote s c p in
     let n : number (c .result .answer) ≡ step s (c .input) (length (c .before)) .answer =
     ap number (p .answer) ∙ number-is (verdict s (c .input) (length (c .before))) s (due s (c .input)) in
     λ i. record { input = c .input; answer = n i; written = e i }

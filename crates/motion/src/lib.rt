@@ -1,6 +1,7 @@
 // Mouse motion along an axis, as two sides of which one is 0: its value is `plus` less `minus`.
 ghost use mathlib.Core.Path.{_≡_};
-ghost use Rattle.motion.specs.Motion.{still, at-rest};
+ghost use Prim.Native.Nat.{_+_, _-_, _≤_, min, max};
+ghost use Rattle.motion.specs.Motion.{still, at-rest, of-signed, sum, opposite, size, reaches, quotient, remainder, part, byte, left-over, packets-needed, moved};
 
 pub struct Motion {
     pub plus: u16,
@@ -19,6 +20,123 @@ impl Motion {
     {
         Motion { plus: 0, minus: 0 }
     }
+
+    // The one place where a signed number comes in. -1 less a negative number always fits, where 0 less it may not.
+    pub fn of_signed(z: i16) -> Self
+        ensures { λ r. ⌜ r ≡ of-signed z ⌝ }
+    {
+        if z < 0 {
+            let n = -1 - z;
+            return Motion {
+                plus: 0,
+                minus: n as u16 + 1,
+            };
+        }
+        Motion {
+            plus: z as u16,
+            minus: 0,
+        }
+    }
+
+    pub fn add(self, d: Motion) -> Self
+        requires { ⌜ size self + size d ≤ 65535 ⌝ }
+        ensures { λ r. ⌜ r ≡ sum self d ⌝ }
+    {
+        let p = self.plus + d.plus;
+        let m = self.minus + d.minus;
+        Motion {
+            plus: less(p, m),
+            minus: less(m, p),
+        }
+    }
+
+    pub fn opposite(self) -> Self
+        ensures { λ r. ⌜ r ≡ opposite self ⌝ }
+    {
+        Motion {
+            plus: self.minus,
+            minus: self.plus,
+        }
+    }
+
+    // How far it is, either way.
+    pub fn size(self) -> u16
+        requires { ⌜ size self ≤ 65535 ⌝ }
+        ensures { λ r. ⌜ r ≡ size self ⌝ }
+    {
+        self.plus + self.minus
+    }
+
+    pub fn reaches(self, threshold: u8) -> bool
+        requires { ⌜ size self ≤ 65535 ⌝ }
+        ensures { λ r. ⌜ r ≡ reaches self threshold ⌝ }
+    {
+        threshold as u16 <= self.size()
+    }
+
+    // Divided toward zero: each side is.
+    pub fn quotient(self, scale: u8) -> Self
+        requires { ⌜ 1 ≤ scale ⌝ }
+        ensures { λ r. ⌜ r ≡ quotient self scale ⌝ }
+    {
+        let s = scale as u16;
+        Motion {
+            plus: self.plus / s,
+            minus: self.minus / s,
+        }
+    }
+
+    pub fn remainder(self, scale: u8) -> Self
+        requires { ⌜ 1 ≤ scale ⌝ }
+        ensures { λ r. ⌜ r ≡ remainder self scale ⌝ }
+    {
+        let s = scale as u16;
+        Motion {
+            plus: self.plus % s,
+            minus: self.minus % s,
+        }
+    }
+
+    // As much as one packet takes, in two's complement.
+    pub fn part_byte(self) -> u8
+        ensures { λ r. ⌜ r ≡ byte (part self) ⌝ }
+    {
+        let p = smaller(self.plus, 127);
+        let m = smaller(self.minus, 128);
+        ((p + (256 - m)) % 256) as u8
+    }
+
+    // What one packet leaves.
+    pub fn left_over(self) -> Self
+        ensures { λ r. ⌜ r ≡ left-over self ⌝ }
+    {
+        Motion {
+            plus: less(self.plus, 127),
+            minus: less(self.minus, 128),
+        }
+    }
+
+    pub fn packets_needed(self) -> u16
+        requires { ⌜ size self ≤ 65000 ⌝ }
+        ensures { λ r. ⌜ r ≡ packets-needed self ⌝ }
+    {
+        larger((self.plus + 126) / 127, (self.minus + 127) / 128)
+    }
+
+    // A coordinate moved by this motion, held to 0 and the maximum. The sum may pass 16 bits.
+    pub fn moves(self, maximum: u16, place: u16) -> u16
+        ensures { λ r. ⌜ r ≡ moved maximum place self ⌝ }
+    {
+        let p = place as u32 + self.plus as u32;
+        let m = self.minus as u32;
+        if p < m {
+            return 0;
+        }
+        if (maximum as u32) < p - m {
+            return maximum;
+        }
+        (p - m) as u16
+    }
 }
 
 impl Motions {
@@ -30,4 +148,23 @@ impl Motions {
             y: Motion { plus: 0, minus: 0 },
         }
     }
+}
+
+// a less b, or 0.
+fn less(a: u16, b: u16) -> u16
+    ensures { λ r. ⌜ r ≡ a - b ⌝ }
+{
+    if a < b { 0 } else { a - b }
+}
+
+fn smaller(a: u16, b: u16) -> u16
+    ensures { λ r. ⌜ r ≡ min a b ⌝ }
+{
+    if a < b { a } else { b }
+}
+
+fn larger(a: u16, b: u16) -> u16
+    ensures { λ r. ⌜ r ≡ max a b ⌝ }
+{
+    if a < b { b } else { a }
 }

@@ -1,9 +1,11 @@
 -- How the code hands on what happens to the mouse: held motion as a number of packets or as arrow keys, anything else as a short run of bytes.
-use Prim.Native.Nat.{ℕ, _≤_}
+use Prim.Native.Nat.{ℕ, _+_, _*_, _≤_}
 use mathlib.Core.Path.{_≡_}
+use mathlib.Core.Bool.{false}
 use mathlib.Core.List.{List, _++_}
-use Rattle.output.specs.Packets.{Packet, bytes}
+use Rattle.output.specs.Packets.{Packet, bytes, bit}
 use Rattle.output.specs.Short.{short-of, short-bytes, short-room}
+use Rattle.motion.specs.Motion.{at-rest}
 use Rattle.mouse.specs.declared.Sending.{Sending}
 use Rattle.mouse.specs.declared.Moved.{Moved}
 use Rattle.mouse.specs.declared.Pressed.{Pressed}
@@ -13,7 +15,11 @@ use Rattle.mouse.specs.Moves.{arrows}
 
 -- the packets that are sent of held motion
 unfoldable pub packets-sent : Sending → List Packet
-packets-sent d = split (d .packets) (d .levels) (d .held) ++ arrows (d .arrows)
+packets-sent d = split (d .packets) (2 * bit (d .left) + bit (d .right)) (d .held) ++ arrows (d .arrows)
+
+-- no packet and no arrow
+abbrev pub nothing-sent : Sending
+nothing-sent = record { packets = 0; left = false; right = false; held = at-rest; arrows = at-rest }
 
 -- motion, or a resume, came to what it should
 pub record MovedAs (d : MouseDue) (r : Moved) : Type 0 where

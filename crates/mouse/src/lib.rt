@@ -31,7 +31,8 @@ pub enum Side {
 // there are packets. Whoever writes it asks its length first.
 pub struct Sending {
     pub packets: u16,
-    pub levels: u8,
+    pub left: bool,
+    pub right: bool,
     pub held: Motions,
     pub arrows: Motions,
 }

@@ -1,2 +1,4 @@
 pub mod Cases
 pub mod Packets
+pub mod Writing
+pub mod Runs

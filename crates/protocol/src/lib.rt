@@ -1,7 +1,7 @@
 // Commands and settings: what the host can set, and a command of which not all bytes have come.
 ghost use mathlib.Core.Path.{_≡_};
 ghost use Rattle.protocol.specs.Reading.{no-command};
-ghost use Rattle.protocol.specs.Settings.{power-up, acts-as};
+ghost use Rattle.protocol.specs.Settings.{power-up, acts-as, monitors, is-absolute, is-mouse, is-joystick};
 
 // A byte for each axis of the mouse: thresholds, scales, deltas.
 pub struct Axes {
@@ -166,4 +166,45 @@ pub fn acts_as(n: u8) -> u8
     ensures { λ r. ⌜ r ≡ acts-as n ⌝ }
 {
     if n == 0 { 1 } else { n }
+}
+
+// The monitoring modes are those of 0x17 and 0x18.
+pub fn is_monitoring(mode: StickMode) -> bool
+    ensures { λ r. ⌜ r ≡ monitors mode ⌝ }
+{
+    match mode {
+        StickMode::Event => false,
+        StickMode::Interrogation => false,
+        StickMode::Monitoring { rate: _ } => true,
+        StickMode::Fire => true,
+        StickMode::Cursor { x: _, y: _ } => false,
+    }
+}
+
+pub fn is_absolute(mode: MouseMode) -> bool
+    ensures { λ r. ⌜ r ≡ is-absolute mode ⌝ }
+{
+    match mode {
+        MouseMode::Relative => false,
+        MouseMode::Absolute { maximum: _ } => true,
+        MouseMode::Keycode { delta: _ } => false,
+    }
+}
+
+pub fn for_mouse(role: Role) -> bool
+    ensures { λ r. ⌜ r ≡ is-mouse role ⌝ }
+{
+    match role {
+        Role::ForMouse => true,
+        Role::ForJoystick => false,
+    }
+}
+
+pub fn for_joystick(role: Role) -> bool
+    ensures { λ r. ⌜ r ≡ is-joystick role ⌝ }
+{
+    match role {
+        Role::ForMouse => false,
+        Role::ForJoystick => true,
+    }
 }

@@ -1,0 +1,189 @@
+-- The states that the step hands back are those of the definition, part by part; and what was written is what is due.
+-- Assumes nothing.
+use Prim.Native.Nat.{ℕ, _+_, _-_, _≤_, _<_}
+use native.Mathlib.Omega.{arith}
+use mathlib.Core.Path.{_≡_, refl, sym, ap, ap₂, _∙_, subst}
+use mathlib.Core.Bool.{Bool, true, false, cond, not, _&&_, true≢false, false≢true}
+use mathlib.Core.List.{List, [], _∷_, _++_, append-assoc, append-nil}
+use lib.ListN.{length, take, drop, replicate, length-append, length-take, length-drop, length-replicate, replicate-append-replicate}
+use lib.Seq.{length-take-le, drop-at}
+use Rattle.output.specs.Packets.{bytes}
+use Rattle.output.specs.Short.{short-bytes, short-of, short-room}
+use Rattle.output.specs.Writing.{over, Wrote}
+use Rattle.output.proofs.Packets.{bytes-append}
+use Rattle.output.proofs.Runs.{short-back}
+use Rattle.protocol.specs.declared.Meaning.{Meaning}
+use Rattle.protocol.specs.declared.Command.{Command}
+use Rattle.protocol.specs.declared.Settings.{Settings}
+use Rattle.protocol.specs.Reading.{no-command}
+use Rattle.protocol.specs.Commands.{sets}
+use Rattle.mouse.specs.declared.Mouse.{Mouse}
+use Rattle.mouse.specs.declared.Moved.{Moved}
+use Rattle.mouse.specs.Reports.{MouseDue, quiet}
+use Rattle.mouse.specs.Moves.{released}
+use Rattle.mouse.specs.Sending.{packets-sent, MovedAs}
+use Rattle.controller.specs.declared.Queue.{Queue}
+use Rattle.controller.specs.declared.State.{State}
+use Rattle.controller.specs.declared.Input.{Input}
+use Rattle.controller.specs.declared.Happening.{Happening}
+use Rattle.controller.specs.declared.Acted.{Acted}
+use Rattle.controller.specs.State.{IsState, IsQueue, OneQueue, contents, queue-of, queue-room, empty-queue}
+use Rattle.controller.specs.Host.{Due, Effect, effect, resumed-packets, resumed-mouse, acted}
+use Rattle.controller.specs.Events.{happened, event, event-due}
+use Rattle.controller.specs.Handing.{HappensAs, acted-of}
+use Rattle.controller.proofs.Lengths.{effect-length}
+
+abbrev effect-on : Input → State → Effect
+effect-on i s = event i (s .paused) (s .settings) (s .mouse) (s .sticks) (s .clock)
+
+-- zeros with bytes over their start
+over-zeros : (bs : List ℕ) (n : ℕ) → length bs ≤ n → over bs (replicate n 0) ≡ bs ++ replicate (n - length bs) 0
+unfolding over
+over-zeros bs n h = ap (λ (l : List ℕ). bs ++ l) (drop-zeros (length bs) n h)
+  where
+    drop-zeros : (k n : ℕ) → k ≤ n → drop {A = ℕ} k (replicate n 0) ≡ replicate (n - k) 0
+    drop-zeros k n h =
+        let e : n ≡ k + (n - k) = omega arith in
+        ap (λ (m : ℕ). drop {A = ℕ} k (replicate m 0)) e
+        ∙ ap (λ (l : List ℕ). drop k l) (sym (replicate-append-replicate k (n - k) 0))
+        ∙ drop-at (replicate k 0) (replicate (n - k) 0) k (length-replicate k 0)
+
+-- a queue with more bytes written behind those that wait
+pub queue-grown : (p : Bool) (q : Queue) (bs : List ℕ) → IsQueue p q → OneQueue q → q .len + length bs ≤ queue-room →
+    _≡_ {A = Queue} (record { bytes = take (q .len) (q .bytes) ++ over bs (drop (q .len) (q .bytes)); len = q .len + length bs }) (queue-of (contents q ++ bs))
+unfolding queue-of
+queue-grown p q bs h one fits = λ i. record { bytes = content i; len = size i }
+  where
+    waiting : length (contents q) ≡ q .len
+    waiting = length-take-le (q .len) (q .bytes) (omega (arith, h .room))
+
+    size : q .len + length bs ≡ length (contents q ++ bs)
+    size = omega (arith, length-append (contents q) bs, waiting)
+
+    rest : queue-room - q .len - length bs ≡ queue-room - length (contents q ++ bs)
+    rest = omega (arith, size)
+
+    content : take (q .len) (q .bytes) ++ over bs (drop (q .len) (q .bytes)) ≡ (contents q ++ bs) ++ replicate (queue-room - length (contents q ++ bs)) 0
+    content =
+        ap (λ (l : List ℕ). contents q ++ over bs l) one
+        ∙ ap (λ (l : List ℕ). contents q ++ l) (over-zeros bs (queue-room - q .len) (omega arith))
+        ∙ ap (λ (n : ℕ). contents q ++ (bs ++ replicate n 0)) rest
+        ∙ sym (append-assoc (contents q) bs (replicate (queue-room - length (contents q ++ bs)) 0))
+
+-- An event that is sent at once: the parts are the event's, and the queue is as it was.
+pub sent-state : (i : Input) (s : State) (h : Happening) → HappensAs (effect-on i s) h → s .paused ≡ false →
+    _≡_ {A = State} (record {
+      settings = s .settings;
+      command = s .command;
+      paused = s .paused;
+      queue = s .queue;
+      mouse = h .mouse;
+      sticks = h .sticks;
+      clock = h .clock;
+    }) (event-due i s .state)
+unfolding event-due happened
+sent-state i s h a p =
+    let q = ap (λ (t : Bool). cond t (queue-of (contents (s .queue) ++ bytes (effect-on i s .packets))) (s .queue)) (sym p) in
+    λ j. record {
+      settings = s .settings;
+      command = s .command;
+      paused = s .paused;
+      queue = q j;
+      mouse = a .mouse j;
+      sticks = a .sticks j;
+      clock = a .clock j;
+    }
+
+-- An event that is queued: its bytes stand behind those that wait.
+pub queued-state : (i : Input) (s : State) (h : Happening) (q : Queue) → HappensAs (effect-on i s) h → s .paused ≡ true →
+    q ≡ queue-of (contents (s .queue) ++ bytes (effect-on i s .packets)) →
+    _≡_ {A = State} (record {
+      settings = s .settings;
+      command = s .command;
+      paused = s .paused;
+      queue = q;
+      mouse = h .mouse;
+      sticks = h .sticks;
+      clock = h .clock;
+    }) (event-due i s .state)
+unfolding event-due happened
+queued-state i s h q a p e =
+    let g = e ∙ ap (λ (t : Bool). cond t (queue-of (contents (s .queue) ++ bytes (effect-on i s .packets))) (s .queue)) (sym p) in
+    λ j. record {
+      settings = s .settings;
+      command = s .command;
+      paused = s .paused;
+      queue = g j;
+      mouse = a .mouse j;
+      sticks = a .sticks j;
+      clock = a .clock j;
+    }
+
+-- what an event that is sent writes, and what one that is queued writes
+pub sent-bytes : (i : Input) (s : State) → s .paused ≡ false → bytes (effect-on i s .packets) ≡ event-due i s .written
+unfolding event-due happened
+sent-bytes i s p = ap (λ (t : Bool). cond t [] (bytes (effect-on i s .packets))) (sym p)
+
+pub queued-bytes : (i : Input) (s : State) → s .paused ≡ true → [] ≡ event-due i s .written
+unfolding event-due happened
+queued-bytes i s p = ap (λ (t : Bool). cond t [] (bytes (effect-on i s .packets))) (sym p)
+
+-- the length of what an event comes to, as the code counts it
+pub event-length : (i : Input) (s : State) (h : Happening) {n : ℕ} → HappensAs (effect-on i s) h → n ≡ length (bytes (packets-sent (h .sending))) →
+    length (h .short .bytes) ≡ short-room → n + h .short .len ≡ length (bytes (effect-on i s .packets))
+event-length i s h a e r =
+    let short : length (short-bytes (h .short)) ≡ h .short .len = length-take-le (h .short .len) (h .short .bytes) (omega (arith, a .short)) in
+    omega (arith, ap length (a .bytes), length-append (bytes (packets-sent (h .sending))) (short-bytes (h .short)))
+
+-- A command that acts, after the resume if output is paused.
+resumed : (p : Bool) (d : MouseDue) (m : Mouse) → ((cond p d (quiet m)) .packets ≡ cond p (d .packets) []) × ((cond p d (quiet m)) .mouse ≡ cond p (d .mouse) m)
+resumed true d m = (refl, refl)
+resumed false d m = (refl, refl)
+
+module _ (m : Meaning) (ps : List ℕ) (s : State) (v : Moved) (a : Acted) (mv : MovedAs (cond (s .paused) (released (s .settings) (s .mouse)) (quiet (s .mouse))) v)
+    (ac : a ≡ acted-of (effect m ps (s .settings) (v .mouse) (s .sticks) (s .clock))) where
+  moved-packets : packets-sent (v .sending) ≡ resumed-packets s
+  moved-packets = mv .packets ∙ resumed (s .paused) (released (s .settings) (s .mouse)) (s .mouse) .0
+
+  moved-mouse : v .mouse ≡ resumed-mouse s
+  moved-mouse = mv .mouse ∙ resumed (s .paused) (released (s .settings) (s .mouse)) (s .mouse) .1
+
+  effect-is : a ≡ acted-of (effect m ps (s .settings) (resumed-mouse s) (s .sticks) (s .clock))
+  effect-is = ac ∙ ap (λ (x : Mouse). acted-of (effect m ps (s .settings) x (s .sticks) (s .clock))) moved-mouse
+
+  own-bytes : short-bytes (a .short) ≡ bytes (effect m ps (s .settings) (resumed-mouse s) (s .sticks) (s .clock) .packets)
+  own-bytes = ap (λ (x : Acted). short-bytes (x .short)) effect-is ∙ short-back (bytes (effect m ps (s .settings) (resumed-mouse s) (s .sticks) (s .clock) .packets))
+
+  -- what it writes: the queue, held motion that is due, and its own packet
+  pub acted-written : contents (s .queue) ++ (bytes (packets-sent (v .sending)) ++ short-bytes (a .short)) ≡ acted m ps s .written
+  unfolding acted
+  acted-written =
+      ap (λ (l : List ℕ). contents (s .queue) ++ l)
+      (ap₂ _++_ (ap bytes moved-packets) own-bytes
+      ∙ sym (bytes-append (resumed-packets s) (effect m ps (s .settings) (resumed-mouse s) (s .sticks) (s .clock) .packets)))
+
+  -- and the state that it leaves
+  pub acted-state : (σ : Settings) (c : Command) (q : Queue) → σ ≡ sets m ps (s .settings) → c ≡ no-command → q ≡ empty-queue →
+      _≡_ {A = State} (record {
+        settings = σ;
+        command = c;
+        paused = false;
+        queue = q;
+        mouse = a .mouse;
+        sticks = a .sticks;
+        clock = a .clock;
+      }) (acted m ps s .state)
+  unfolding acted
+  acted-state σ c q eσ ec eq = λ i. record {
+    settings = eσ i;
+    command = ec i;
+    paused = false;
+    queue = eq i;
+    mouse = effect-is i .mouse;
+    sticks = effect-is i .sticks;
+    clock = effect-is i .clock;
+  }
+
+  -- its own bytes are few
+  pub own-short : a .short .len ≤ short-room
+  own-short = omega (arith, ap (λ (x : Acted). x .short .len) effect-is, effect-length m ps (s .settings) (resumed-mouse s) (s .sticks) (s .clock))
