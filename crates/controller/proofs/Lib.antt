@@ -1,9 +1,12 @@
+pub mod Numbers
 pub mod Delivery
 pub mod Refusals
 pub mod States
 pub mod Lengths
 pub mod Examples
 pub mod Answers
-pub mod Numbers
 pub mod Results
 pub mod Tells
+pub mod Hands
+pub mod Hosts
+pub mod Stepping

@@ -33,7 +33,7 @@ use Rattle.controller.specs.Events.{happened, event, event-due}
 use Rattle.controller.specs.Handing.{HappensAs, acted-of}
 use Rattle.controller.proofs.Lengths.{effect-length}
 
-abbrev effect-on : Input → State → Effect
+abbrev pub effect-on : Input → State → Effect
 effect-on i s = event i (s .paused) (s .settings) (s .mouse) (s .sticks) (s .clock)
 
 -- zeros with bytes over their start
@@ -130,9 +130,9 @@ queued-bytes i s p = ap (λ (t : Bool). cond t [] (bytes (effect-on i s .packets
 
 -- the length of what an event comes to, as the code counts it
 pub event-length : (i : Input) (s : State) (h : Happening) {n : ℕ} → HappensAs (effect-on i s) h → n ≡ length (bytes (packets-sent (h .sending))) →
-    length (h .short .bytes) ≡ short-room → n + h .short .len ≡ length (bytes (effect-on i s .packets))
-event-length i s h a e r =
-    let short : length (short-bytes (h .short)) ≡ h .short .len = length-take-le (h .short .len) (h .short .bytes) (omega (arith, a .short)) in
+    n + h .short .len ≡ length (bytes (effect-on i s .packets))
+event-length i s h a e =
+    let short : length (short-bytes (h .short)) ≡ h .short .len = length-take-le (h .short .len) (h .short .bytes) (omega (arith, a .short .len, a .short .room)) in
     omega (arith, ap length (a .bytes), length-append (bytes (packets-sent (h .sending))) (short-bytes (h .short)))
 
 -- A command that acts, after the resume if output is paused.
@@ -142,7 +142,7 @@ resumed false d m = (refl, refl)
 
 module _ (m : Meaning) (ps : List ℕ) (s : State) (v : Moved) (a : Acted) (mv : MovedAs (cond (s .paused) (released (s .settings) (s .mouse)) (quiet (s .mouse))) v)
     (ac : a ≡ acted-of (effect m ps (s .settings) (v .mouse) (s .sticks) (s .clock))) where
-  moved-packets : packets-sent (v .sending) ≡ resumed-packets s
+  pub moved-packets : packets-sent (v .sending) ≡ resumed-packets s
   moved-packets = mv .packets ∙ resumed (s .paused) (released (s .settings) (s .mouse)) (s .mouse) .0
 
   moved-mouse : v .mouse ≡ resumed-mouse s
@@ -187,3 +187,10 @@ module _ (m : Meaning) (ps : List ℕ) (s : State) (v : Moved) (a : Acted) (mv :
   -- its own bytes are few
   pub own-short : a .short .len ≤ short-room
   own-short = omega (arith, ap (λ (x : Acted). x .short .len) effect-is, effect-length m ps (s .settings) (resumed-mouse s) (s .sticks) (s .clock))
+
+  -- and the run that holds them has its eight places
+  pub own-room : length (a .short .bytes) ≡ short-room
+  own-room =
+      let own = bytes (effect m ps (s .settings) (resumed-mouse s) (s .sticks) (s .clock) .packets) in
+      ap (λ (x : Acted). length (x .short .bytes)) effect-is
+      ∙ omega (arith, length-append own (replicate (short-room - length own) 0), length-replicate {A = ℕ} (short-room - length own) 0, effect-length m ps (s .settings) (resumed-mouse s) (s .sticks) (s .clock))

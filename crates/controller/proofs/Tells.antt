@@ -12,6 +12,8 @@ use Rattle.protocol.specs.declared.Meaning.{Meaning}
 use Rattle.protocol.specs.declared.Meaning.the-variants.{Nothing, Memory, Pause, Reset, OfMouse, OfStick, OfOther, Inquire}
 use Rattle.protocol.specs.declared.Command.{Command}
 use Rattle.protocol.specs.declared.Received.{Received}
+use Rattle.protocol.specs.declared.Settings.{Settings}
+use Rattle.mouse.specs.declared.Mouse.{Mouse}
 use Rattle.protocol.specs.Codes.{meaning-of}
 use Rattle.protocol.specs.Reading.{Fed, half, whole, feed, received-of, no-command, command-after}
 use Rattle.protocol.specs.Commands.{executed}
@@ -20,7 +22,7 @@ use Rattle.controller.specs.declared.Input.{Input}
 use Rattle.controller.specs.declared.Input.the-variants.{Byte, Key, Button, Move, Joystick, Sample, Tick}
 use Rattle.controller.specs.Host.{Due, silent, acted, reset-due, executes, host-due, reading, paused-now, is-reset, is-pause}
 use Rattle.controller.specs.Events.{event-due}
-use Rattle.controller.specs.Step.{due, IsInput}
+use Rattle.controller.specs.Step.{due, IsInput, too-far}
 use Rattle.controller.proofs.Input.{the-type}
 
 -- an input whose kind is not the first is an event
@@ -35,6 +37,19 @@ is-event (Move dx dy) k s = (refl, tt)
 is-event (Joystick which place trigger) k s = (refl, tt)
 is-event (Sample b) k s = (refl, tt)
 is-event Tick k s = (refl, tt)
+
+-- and one whose kind is not the fourth is no motion
+pub not-moving : (i : Input) (σ : Settings) (m : Mouse) → OneOf (0 ∷ 1 ∷ 2 ∷ 4 ∷ 5 ∷ 6 ∷ []) (tagOf the-type i) → false ≡ too-far i σ m
+unfolding too-far
+not-moving (Byte b) σ m k = refl
+not-moving (Key code down) σ m k = refl
+not-moving (Button side down) σ m k = refl
+not-moving (Move dx dy) σ m k =
+    absurd (⊎-elim (λ e. omega (arith, e)) (⊎-elim (λ e. omega (arith, e)) (⊎-elim (λ e. omega (arith, e)) (⊎-elim (λ e. omega (arith, e))
+    (⊎-elim (λ e. omega (arith, e)) (λ e. omega (arith, e)))))) k)
+not-moving (Joystick which place trigger) σ m k = refl
+not-moving (Sample b) σ m k = refl
+not-moving Tick σ m k = refl
 
 -- what a byte came to, as the code hands it on
 pub fed-whole : (f : Fed) (r : Received) → r ≡ received-of f → r .whole ≡ true → (f ≡ whole (r .code) (r .params)) × (r .command ≡ no-command)

@@ -3,7 +3,7 @@ use Prim.Native.Nat.{ℕ, _≤_}
 use mathlib.Core.Path.{_≡_}
 use mathlib.Core.List.{List, _++_}
 use Rattle.output.specs.Packets.{bytes}
-use Rattle.output.specs.Short.{short-of, short-bytes, short-room}
+use Rattle.output.specs.Short.{short-of, short-bytes, IsShort}
 use Rattle.clock.specs.declared.Clock.{Clock}
 use Rattle.mouse.specs.declared.Mouse.{Mouse}
 use Rattle.mouse.specs.Sending.{packets-sent, nothing-sent}
@@ -15,7 +15,7 @@ use Rattle.controller.specs.Host.{Effect}
 -- an event came to what it should: held motion that is sent, then a short run of bytes, and the parts
 pub record HappensAs (e : Effect) (r : Happening) : Type 0 where
   pub bytes : bytes (packets-sent (r .sending)) ++ short-bytes (r .short) ≡ bytes (e .packets)
-  pub short : r .short .len ≤ short-room
+  pub short : IsShort (r .short)
   pub mouse : r .mouse ≡ e .mouse
   pub sticks : r .sticks ≡ e .sticks
   pub clock : r .clock ≡ e .clock

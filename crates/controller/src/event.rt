@@ -91,3 +91,136 @@ pub(crate) fn in_range(input: Input) -> bool
         Input::Tick => true,
     }
 }
+
+// The third refusal is for motion that would be held beyond its limit while output is paused.
+pub(crate) fn too_far(input: Input, settings: Settings, mouse: Mouse) -> bool
+    requires { ⌜ in-range input ≡ true ⌝ }
+    requires { ⌜ WithinLimit mouse ⌝ }
+    ensures { λ r. ⌜ r ≡ too-far input settings mouse ⌝ }
+{
+    if let Input::Move { dx, dy } = input {
+        return mouse.overflows(settings, dx, dy);
+    }
+    false
+}
+
+// A key sends its scan code, but in the monitoring modes.
+fn key_bytes(settings: Settings, code: u8, down: bool) -> Short
+    requires { ⌜ code ≤ last-key ⌝ }
+    ensures { λ r. ⌜ r ≡ short-of (bytes (key-packets settings code down)) ⌝ }
+{
+    let mode = settings.stick;
+    if protocol::is_monitoring(mode) {
+        return Short::none();
+    }
+    Short::one(output::code_sent(code, down))
+}
+
+// A stick event's three numbers, which are in range.
+fn stick_told(
+    settings: Settings,
+    sticks: Sticks,
+    stick: i16,
+    position: i16,
+    trigger: i16,
+) -> SticksTold
+    requires { ⌜ in-range (Input.Joystick stick position trigger) ≡ true ⌝ }
+    requires { ⌜ IsSticks (settings .stick) sticks ⌝ }
+    ensures { λ r. ⌜ r ≡ told-of (moved settings (eqb (natAbs stick) 1) (stick-of position trigger) sticks) ⌝ }
+{
+    let one = number(stick) == 1;
+    let new = Stick {
+        position: number(position) as u8,
+        trigger: number(trigger) == 1,
+    };
+    sticks.moved(settings, one, new)
+}
+
+// What an event comes to.
+pub(crate) fn happens(
+    input: Input,
+    paused: bool,
+    settings: Settings,
+    mouse: Mouse,
+    sticks: Sticks,
+    clock: Clock,
+) -> Happening
+    requires { ⌜ in-range input ≡ true ⌝ }
+    requires { ⌜ WithinLimit mouse ⌝ }
+    requires { ⌜ IsSticks (settings .stick) sticks ⌝ }
+    requires { ⌜ OneSticks sticks ⌝ }
+    ensures { λ r. ⌜ HappensAs (event input paused settings mouse sticks clock) r ⌝ }
+{
+    match input {
+        Input::Byte(_) => Happening {
+            sending: Sending::none(),
+            short: Short::none(),
+            mouse: mouse,
+            sticks: sticks,
+            clock: clock,
+        },
+        Input::Key { code, down } => Happening {
+            sending: Sending::none(),
+            short: key_bytes(settings, code, down),
+            mouse: mouse,
+            sticks: sticks,
+            clock: clock,
+        },
+        Input::Button { side, down } => {
+            let p = mouse.presses(settings, side, down);
+            let sending = p.sending;
+            let short = p.short;
+            let m = p.mouse;
+            Happening {
+                sending: sending,
+                short: short,
+                mouse: m,
+                sticks: sticks,
+                clock: clock,
+            }
+        }
+        Input::Move { dx, dy } => {
+            let p = mouse.moves(paused, settings, dx, dy);
+            let sending = p.sending;
+            let m = p.mouse;
+            Happening {
+                sending: sending,
+                short: Short::none(),
+                mouse: m,
+                sticks: sticks,
+                clock: clock,
+            }
+        }
+        Input::Joystick {
+            stick,
+            position,
+            trigger,
+        } => {
+            let t = stick_told(settings, sticks, stick, position, trigger);
+            told(t, mouse, clock)
+        }
+        Input::Sample(b) => {
+            let t = sticks.sampled(paused, settings, number(b) as u8);
+            told(t, mouse, clock)
+        }
+        Input::Tick => {
+            let t = sticks.ticked(paused, settings);
+            told(t, mouse, clock.tick())
+        }
+    }
+}
+
+// What the joysticks tell, with the parts that they leave.
+fn told(t: SticksTold, mouse: Mouse, clock: Clock) -> Happening
+    ensures { λ r. ⌜ r ≡ of-told t mouse clock ⌝ }
+{
+    let short = t.short;
+    let sticks = t.sticks;
+    Happening {
+        sending: Sending::none(),
+        short: short,
+        mouse: mouse,
+        sticks: sticks,
+        clock: clock,
+    }
+}

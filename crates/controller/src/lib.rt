@@ -1,4 +1,6 @@
+mod command;
 mod event;
+mod step;
 
 // The controller: its state, what goes in and what comes out of a step.
 ghost use mathlib.Core.Path.{_≡_};

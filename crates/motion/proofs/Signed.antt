@@ -3,7 +3,7 @@
 use Prim.Native.Nat.{ℕ, _+_, _<_}
 use native.Mathlib.Omega.{arith}
 use native.Mathlib.Numerals.{add-one}
-use mathlib.Core.Path.{_≡_, refl, sym, ap, _∙_}
+use mathlib.Core.Path.{_≡_, refl}
 use mathlib.Core.Bool.{true, false, true≢false}
 use lib.Dec.{T}
 use lib.IntN.{ℤ, pos, negsuc, natAbs, _-ℤ_}
@@ -12,7 +12,6 @@ use borrow.Author.Tests.{ltb-true}
 use mir.Syntax.{w16}
 use mir.Val.{SFits, Fits, toZ, ofZ}
 use mir.ValLaws.{toZ-ofZ}
-use Rattle.motion.specs.declared.Motion.{Motion}
 use Rattle.motion.specs.Motion.{of-signed}
 use Rattle.motion.proofs.Difference.{itself, plain, negated, _⊕_, equal}
 

@@ -23,6 +23,7 @@ use Rattle.protocol.specs.declared.MouseCommand.{MouseCommand}
 use Rattle.protocol.specs.declared.MouseCommand.the-variants.{SetAction, SetRelative, SetAbsolute, SetKeycode, SetThreshold, SetScale, ReportPosition, LoadPosition, OriginBottom, OriginTop}
 use Rattle.protocol.specs.Settings.{acts-as}
 use Rattle.mouse.specs.declared.Mouse.{Mouse}
+use Rattle.mouse.specs.declared.Sending.{Sending}
 use Rattle.mouse.specs.declared.Side.{Side}
 use Rattle.mouse.specs.declared.Side.the-variants.{Left, Right}
 use Rattle.mouse.specs.Mouse.{live, held-limit, held-below, with-held}
@@ -30,6 +31,7 @@ use Rattle.mouse.specs.Reports.{MouseDue, quiet, buttons, split, packets
 use Rattle.mouse.specs.Moves.{gathered, either-reaches, quotients, arrows, keyed, motion-due, released, applied, moves}
 use Rattle.mouse.specs.Buttons.{level, with-level, live-button, presses, as-keys, reported, keyed-button, with-latch}
 use Rattle.mouse.specs.Commands.{commanded}
+use Rattle.mouse.specs.Sending.{packets-sent}
 use Rattle.mouse.proofs.States.{GoodMouse, gathered-size, held-small, held-unpaused}
 
 -- n packets of motion are 3·n bytes
@@ -44,7 +46,7 @@ four-append : (a b c d : List Packet) → length (bytes (a ++ (b ++ (c ++ d)))) 
 four-append a b c d = simp (bytes-append, length-append)
 
 -- two bytes for each step that the arrows stand for
-arrows-length : (d : Motions) → length (bytes (arrows d)) ≡ 2 * (size (d .x) + size (d .y))
+pub arrows-length : (d : Motions) → length (bytes (arrows d)) ≡ 2 * (size (d .x) + size (d .y))
 unfolding arrows
 arrows-length d =
     four-append (pairs (d .x .plus) arrow-right) (pairs (d .x .minus) arrow-left) (pairs (d .y .plus) arrow-down) (pairs (d .y .minus) arrow-up)
@@ -56,10 +58,15 @@ arrows-length d =
       pairs-length (d .y .minus) arrow-up,
     )
 
+-- what is sent of held motion, as the code hands it on: three bytes a packet, two an arrow
+pub sent-length : (d : Sending) → length (bytes (packets-sent d)) ≡ 3 * d .packets + 2 * (size (d .arrows .x) + size (d .arrows .y))
+unfolding packets-sent
+sent-length d = simp (bytes-append, length-append, split-length, arrows-length)
+
 -- what is sent of motion that is held, at most: n on each axis
-sent-length : (least n : ℕ) (m : Mouse) → size (m .held .x) ≤ n → size (m .held .y) ≤ n → length (bytes (send-all least m .packets)) ≤ 3 * max least n
+all-length : (least n : ℕ) (m : Mouse) → size (m .held .x) ≤ n → size (m .held .y) ≤ n → length (bytes (send-all least m .packets)) ≤ 3 * max least n
 unfolding send-all
-sent-length least n m hx hy =
+all-length least n m hx hy =
     omega (
       arith,
       split-length (max least (packets-for (m .held))) (buttons m) (m .held),
@@ -81,7 +88,7 @@ due-length : (mode : MouseMode) (t : Axes) (n : ℕ) (m : Mouse) → size (m .he
 unfolding motion-due
 due-length Relative t n m hx hy =
     both-ways (λ (d : MouseDue). length (bytes (d .packets)) ≤ 4 * n) (either-reaches t (m .held))
-    (λ _. omega (arith, sent-length 0 n m hx hy)) (λ _. omega arith)
+    (λ _. omega (arith, all-length 0 n m hx hy)) (λ _. omega arith)
 due-length (Absolute p) t n m hx hy = omega arith
 due-length (Keycode delta) t n m hx hy = keyed-length delta n m hx hy
 
@@ -127,7 +134,7 @@ button-length : (mode : MouseMode) (action : ℕ) (side : Side) (down : Bool) (m
 unfolding live-button report
 button-length Relative action side down m hx hy =
     both-ways (λ (d : MouseDue). length (bytes (d .packets)) ≤ 4 * held-limit) (eqb action as-keys)
-    (λ _. omega arith) (λ _. omega (arith, sent-length 1 held-limit m hx hy))
+    (λ _. omega arith) (λ _. omega (arith, all-length 1 held-limit m hx hy))
 button-length (Absolute p) action side down m hx hy =
     both-ways (λ (d : MouseDue). length (bytes (d .packets)) ≤ 4 * held-limit) (eqb action as-keys)
     (λ _. omega arith)

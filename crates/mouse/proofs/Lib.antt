@@ -1,3 +1,6 @@
 pub mod States
 pub mod Lengths
 pub mod Conserved
+pub mod Bits
+pub mod Sends
+pub mod Outcomes

@@ -1,9 +1,15 @@
 // The mouse: coordinates of absolute mode, motion held back, button levels, and the latches that 0x0D reports.
 ghost use mathlib.Core.Path.{_≡_};
-ghost use Rattle.mouse.specs.Mouse.{at-power-up, held-limit};
+ghost use Rattle.mouse.specs.Mouse.{at-power-up, held-limit, live};
 use motion::Motions;
 use output::Short;
 use protocol::Point;
+use protocol::Settings;
+
+mod button;
+mod command;
+mod moving;
+mod send;
 
 // Which buttons went down or up since the last 0x0D.
 pub struct Latches {
@@ -82,4 +88,19 @@ impl Mouse {
             },
         }
     }
+}
+
+// Live: on, port 0 a mouse, and not monitoring.
+pub fn live(settings: Settings) -> bool
+    ensures { λ r. ⌜ r ≡ live settings ⌝ }
+{
+    if !settings.mouseon {
+        return false;
+    }
+    let role = settings.port0;
+    if !protocol::for_mouse(role) {
+        return false;
+    }
+    let stick = settings.stick;
+    !protocol::is_monitoring(stick)
 }

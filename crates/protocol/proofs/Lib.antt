@@ -1,5 +1,6 @@
 pub mod Reading
 pub mod Ranges
+pub mod Table
 pub mod Core
 pub mod Segments
 pub mod PutBack

@@ -8,7 +8,7 @@ use mathlib.Core.List.{List, [], _∷_}
 use lib.Dec.{eqb, leb, ltb}
 use lib.ListN.{length, getD, set, drop, replicate, length-set}
 use lib.Seq.{drop-set-lt, drop-drop, getD-set-same}
-use borrow.Author.Tests.{ltb-true, ltb-false, leb-true, eqb-true, eqb-false, eq-eqb}
+use borrow.Author.Tests.{ltb-true, ltb-false, leb-true, eqb-true, eqb-false, eq-eqb, ne-eqb}
 use Rattle.protocol.specs.declared.Command.{Command}
 use Rattle.protocol.specs.declared.Meaning.the-variants.{Nothing}
 use Rattle.protocol.specs.Codes.{Entry, entry, table, find, line, parameters-of, memory-load}
@@ -155,6 +155,10 @@ lacking : (c : Command) → IsCommand c → eqb (c .code) 0 ≡ false → c .pen
 lacking c C f p =
     let l : 1 ≤ missing c = subst (λ (t : Bool). cond t 0 1 ≤ missing c) f (C .lacks) in
     omega arith
+
+-- so that its next parameter has a place
+pub next-placed : (c : Command) → IsCommand c → (c .code ≡ 0 → ⊥) → c .pending ≤ 0 → c .come < most-parameters
+next-placed c C f p = omega (arith, lacking c C (ne-eqb (c .code) 0 f) p, parameters-small (c .code))
 
 -- a byte comes to a half-received command within its ranges, or to a whole one with six bytes
 pub fed-is : (c : Command) (b : ℕ) → IsCommand c → OneCommand c → b ≤ 255 → Fine (feed c b)

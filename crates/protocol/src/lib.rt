@@ -3,6 +3,14 @@ ghost use mathlib.Core.Path.{_≡_};
 ghost use Rattle.protocol.specs.Reading.{no-command};
 ghost use Rattle.protocol.specs.Settings.{power-up, acts-as, monitors, is-absolute, is-mouse, is-joystick};
 
+mod answer;
+pub mod code;
+mod read;
+mod set;
+
+pub use code::meaning_of;
+pub use code::parameters_of;
+
 // A byte for each axis of the mouse: thresholds, scales, deltas.
 pub struct Axes {
     pub x: u8,

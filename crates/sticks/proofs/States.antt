@@ -13,7 +13,7 @@ use Rattle.protocol.specs.Commands.{leave-monitoring}
 use Rattle.sticks.specs.declared.Stick.{Stick}
 use Rattle.sticks.specs.declared.Count.{Count}
 use Rattle.sticks.specs.declared.Sticks.{Sticks}
-use Rattle.sticks.specs.Sticks.{IsCount, IsSticks, OneSticks, most-position, at-power-up}
+use Rattle.sticks.specs.Sticks.{IsCount, IsSticks, OneSticks, most-position, at-power-up, stick-at}
 use Rattle.sticks.specs.Events.{stored, with-counts}
 use Rattle.sticks.specs.Commands.{cleared, left-from}
 
@@ -34,6 +34,11 @@ power-one = omega arith
 pub stored-is : (mode : StickMode) (one : Bool) (new : Stick) (s : Sticks) → new .position ≤ most-position → GoodSticks mode s → GoodSticks mode (stored one new s)
 stored-is mode true new s p h = omega arith
 stored-is mode false new s p h = omega arith
+
+-- each stick's position is in range
+pub stick-most : (one : Bool) (s : Sticks) → s .zero .position ≤ most-position → s .one .position ≤ most-position → stick-at one s .position ≤ most-position
+stick-most true s z o = o
+stick-most false s z o = z
 
 -- new counts
 pub counts-are : (mode : StickMode) (x y : Count) (s : Sticks) → IsCount x → IsCount y → GoodSticks mode s → GoodSticks mode (with-counts x y s)

@@ -1,6 +1,13 @@
 // The joysticks: where both stand, the repeat counts of keycode mode, and what the two monitoring modes have gathered.
+mod axis;
+mod command;
+mod event;
+mod keys;
+mod tick;
+
 ghost use mathlib.Core.Path.{_≡_};
-ghost use Rattle.sticks.specs.Sticks.{at-power-up};
+ghost use Prim.Native.Nat.{_≤_};
+ghost use Rattle.sticks.specs.Sticks.{most-position, at-power-up, quiet, told-of, byte};
 use output::Short;
 
 // Bits 0 to 3 of the position are up, down, left, right.
@@ -32,6 +39,24 @@ pub struct SticksTold {
     pub sticks: Sticks,
 }
 
+// The same for one axis of stick 0 in keycode mode: the make code of the arrow key that is due, 0 for none, and the counts afterwards.
+pub struct AxisTold {
+    pub arrow: u8,
+    pub count: Count,
+}
+
+impl Stick {
+    pub(crate) fn byte(self) -> u8
+        requires { ⌜ self .position ≤ most-position ⌝ }
+        ensures { λ r. ⌜ r ≡ byte self ⌝ }
+    {
+        if self.trigger {
+            return 0x80 + self.position;
+        }
+        self.position
+    }
+}
+
 impl Sticks {
     pub fn power_up() -> Self
         ensures { λ r. ⌜ r ≡ at-power-up ⌝ }
@@ -50,6 +75,16 @@ impl Sticks {
             ticks: 0,
             samples: 0,
             bits: 0,
+        }
+    }
+
+    // Nothing is due.
+    pub(crate) fn quiet(self) -> SticksTold
+        ensures { λ r. ⌜ r ≡ told-of (quiet self) ⌝ }
+    {
+        SticksTold {
+            short: Short::none(),
+            sticks: self,
         }
     }
 }

@@ -1,0 +1,26 @@
+-- `mouse::button::latched` meets its contract.
+-- Assumes nothing.
+use borrow.Author.Needs.{needs}
+use Rattle.mouse.proofs.button.latched.Statement.{statement}
+use Rattle.mouse.proofs.button.latched.Tie as tie
+
+enum-told : tie.Need-enum-told
+enum-told c = search needs
+
+returns : tie.Need-returns
+returns c = simp (c .before .enum-told .given .1, c .if1 .taken)
+
+enum-told-2 : tie.Need-enum-told-2
+enum-told-2 c = search needs
+
+returns-2 : tie.Need-returns-2
+returns-2 c = simp (c .before .enum-told2 .given .1, c .if2 .taken)
+
+returns-3 : tie.Need-returns-3
+returns-3 c = simp (c .before .enum-told .given .1, c .if1 .left)
+
+returns-4 : tie.Need-returns-4
+returns-4 c = simp (c .before .enum-told2 .given .1, c .if2 .left)
+
+pub latched-spec : {M : Type 1} → statement M
+latched-spec = tie.close (tie.spec enum-told returns enum-told-2 returns-2 returns-3 returns-4)

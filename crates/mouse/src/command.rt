@@ -1,0 +1,136 @@
+// The mouse's commands, and the report of absolute mode.
+ghost use mathlib.Core.Path.{_≡_};
+ghost use Prim.Native.Nat.{_+_, _*_};
+ghost use Rattle.output.specs.Packets.{bytes-of};
+ghost use Rattle.output.specs.Short.{short-of};
+ghost use Rattle.mouse.specs.Mouse.{maximum-of, no-latches, with-latches};
+ghost use Rattle.mouse.specs.Reports.{quiet, latch-byte, report};
+ghost use Rattle.mouse.specs.Commands.{started-anew, loaded, commanded, switched-off};
+ghost use Rattle.mouse.specs.Sending.{commanded-of};
+use crate::Commanded;
+use crate::Latches;
+use crate::Mouse;
+use motion::Motions;
+use output::Short;
+use protocol::MouseCommand;
+use protocol::MouseMode;
+use protocol::Point;
+
+impl Mouse {
+    pub fn commanded(self, c: MouseCommand, params: [u8; 6], mode: MouseMode) -> Commanded
+        ensures { λ r. ⌜ r ≡ commanded-of (commanded c params mode self) ⌝ }
+    {
+        match c {
+            MouseCommand::SetAction => self.silent(),
+            MouseCommand::SetRelative => self.started_anew().silent(),
+            MouseCommand::SetAbsolute => self.started_anew().silent(),
+            MouseCommand::SetKeycode => self.started_anew().silent(),
+            MouseCommand::SetThreshold => self.silent(),
+            MouseCommand::SetScale => self.silent(),
+            MouseCommand::ReportPosition => Commanded {
+                short: self.report(),
+                mouse: self.without_latches(),
+            },
+            MouseCommand::LoadPosition => self.loaded(maximum_of(mode), params).silent(),
+            MouseCommand::OriginBottom => self.silent(),
+            MouseCommand::OriginTop => self.silent(),
+        }
+    }
+
+    pub fn switched_off(self) -> Self
+        ensures { λ r. ⌜ r ≡ switched-off self ⌝ }
+    {
+        let held = Motions::at_rest();
+        Mouse { held, ..self }
+    }
+
+    fn silent(self) -> Commanded
+        ensures { λ r. ⌜ r ≡ commanded-of (quiet self) ⌝ }
+    {
+        Commanded {
+            short: Short::none(),
+            mouse: self,
+        }
+    }
+
+    fn started_anew(self) -> Self
+        ensures { λ r. ⌜ r ≡ started-anew self ⌝ }
+    {
+        let place = Point { x: 0, y: 0 };
+        let held = Motions::at_rest();
+        Mouse {
+            place,
+            held,
+            ..self
+        }
+    }
+
+    fn without_latches(self) -> Self
+        ensures { λ r. ⌜ r ≡ with-latches no-latches self ⌝ }
+    {
+        let latches = Latches {
+            rightdown: false,
+            rightup: false,
+            leftdown: false,
+            leftup: false,
+        };
+        Mouse { latches, ..self }
+    }
+
+    // 0x0E, held to the maximum; its first parameter is a filler.
+    fn loaded(self, maximum: Point, params: [u8; 6]) -> Self
+        ensures { λ r. ⌜ r ≡ loaded maximum params self ⌝ }
+    {
+        let place = Point {
+            x: motion::smaller(maximum.x, word(params[1], params[2])),
+            y: motion::smaller(maximum.y, word(params[3], params[4])),
+        };
+        Mouse { place, ..self }
+    }
+
+    // What 0x0D reports: high bytes first.
+    pub(crate) fn report(self) -> Short
+        ensures { λ r. ⌜ r ≡ short-of (bytes-of (report self)) ⌝ }
+    {
+        let x = self.place.x;
+        let y = self.place.y;
+        let l = latch_byte(self.latches);
+        Short {
+            bytes: [
+                0xF7,
+                l,
+                (x / 256) as u8,
+                (x % 256) as u8,
+                (y / 256) as u8,
+                (y % 256) as u8,
+                0,
+                0,
+            ],
+            len: 6,
+        }
+    }
+}
+
+fn word(high: u8, low: u8) -> u16
+    ensures { λ r. ⌜ r ≡ 256 * high + low ⌝ }
+{
+    256 * high as u16 + low as u16
+}
+
+// The most that the coordinates are: 0 outside absolute mode.
+fn maximum_of(mode: MouseMode) -> Point
+    ensures { λ r. ⌜ r ≡ maximum-of mode ⌝ }
+{
+    match mode {
+        MouseMode::Relative => Point { x: 0, y: 0 },
+        MouseMode::Absolute { maximum } => maximum,
+        MouseMode::Keycode { delta: _ } => Point { x: 0, y: 0 },
+    }
+}
+
+// 1 right down, 2 right up, 4 left down, 8 left up.
+fn latch_byte(l: Latches) -> u8
+    ensures { λ r. ⌜ r ≡ latch-byte l ⌝ }
+{
+    l.rightdown as u8 + 2 * l.rightup as u8 + 4 * l.leftdown as u8 + 8 * l.leftup as u8
+}

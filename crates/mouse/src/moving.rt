@@ -1,0 +1,259 @@
+// Motion in the three modes of the mouse, and what of it is due at a resume.
+ghost use mathlib.Core.Path.{_≡_};
+ghost use mathlib.Core.Bool.{cond};
+ghost use Prim.Native.Nat.{_+_, _≤_};
+ghost use lib.IntN.{natAbs};
+ghost use Rattle.motion.specs.Motion.{size};
+ghost use Rattle.protocol.specs.declared.MouseMode.the-variants.{Relative};
+ghost use Rattle.mouse.specs.Mouse.{WithinLimit, held-limit};
+ghost use Rattle.mouse.specs.Reports.{quiet, send-all};
+ghost use Rattle.mouse.specs.Moves.{turns-y, incoming, gathered, either-reaches, quotients, remainders, keyed, steered, motion-due, released, applied, moves, overflows};
+ghost use Rattle.mouse.specs.Sending.{MovedAs};
+use crate::Mouse;
+use crate::Moved;
+use crate::Sending;
+use motion::Motion;
+use motion::Motions;
+use protocol::Axes;
+use protocol::MouseMode;
+use protocol::Point;
+use protocol::Settings;
+
+impl Mouse {
+    // Would held motion along an axis leave its limit?
+    pub fn overflows(self, settings: Settings, dx: i16, dy: i16) -> bool
+        requires { ⌜ (natAbs dx ≤ 64) × (natAbs dy ≤ 64) ⌝ }
+        requires { ⌜ WithinLimit self ⌝ }
+        ensures { λ r. ⌜ r ≡ overflows settings dx dy self ⌝ }
+    {
+        if !crate::live(settings) {
+            return false;
+        }
+        let mode = settings.mouse;
+        if protocol::is_absolute(mode) {
+            return false;
+        }
+        let held = gathered(settings, dx, dy, self.held);
+        let x = held.x;
+        if Mouse::HELD_LIMIT < x.size() {
+            return true;
+        }
+        let y = held.y;
+        Mouse::HELD_LIMIT < y.size()
+    }
+
+    pub fn moves(self, paused: bool, settings: Settings, dx: i16, dy: i16) -> Moved
+        requires { ⌜ (natAbs dx ≤ 64) × (natAbs dy ≤ 64) ⌝ }
+        requires { ⌜ WithinLimit self ⌝ }
+        ensures { λ r. ⌜ MovedAs (moves paused settings dx dy self) r ⌝ }
+    {
+        if !crate::live(settings) {
+            return self.stays();
+        }
+        let held = gathered(settings, dx, dy, self.held);
+        let next = Mouse { held, ..self };
+        let mode = settings.mouse;
+        next.applied(mode, paused, settings)
+    }
+
+    // Held motion that is due at a resume.
+    pub fn resumes(self, paused: bool, settings: Settings) -> Moved
+        requires { ⌜ WithinLimit self ⌝ }
+        ensures { λ r. ⌜ MovedAs (cond paused (released settings self) (quiet self)) r ⌝ }
+    {
+        if !paused {
+            return self.stays();
+        }
+        if !crate::live(settings) {
+            return self.stays();
+        }
+        let mode = settings.mouse;
+        self.due(mode, settings.threshold)
+    }
+
+    // Motion, once it is held, in each mode.
+    fn applied(self, mode: MouseMode, paused: bool, settings: Settings) -> Moved
+        requires { ⌜ (size (self .held .x) ≤ 65000) × (size (self .held .y) ≤ 65000) ⌝ }
+        ensures { λ r. ⌜ MovedAs (applied mode paused settings self) r ⌝ }
+    {
+        match mode {
+            MouseMode::Relative => {
+                if paused {
+                    return self.stays();
+                }
+                self.reached(settings.threshold)
+            }
+            MouseMode::Absolute { maximum } => self.steered(maximum, settings.scale).stays(),
+            MouseMode::Keycode { delta } => {
+                if paused {
+                    return self.stays();
+                }
+                self.keyed(delta)
+            }
+        }
+    }
+
+    // Held motion that is due, in each mode.
+    fn due(self, mode: MouseMode, threshold: Axes) -> Moved
+        requires { ⌜ (size (self .held .x) ≤ 65000) × (size (self .held .y) ≤ 65000) ⌝ }
+        ensures { λ r. ⌜ MovedAs (motion-due mode threshold self) r ⌝ }
+    {
+        match mode {
+            MouseMode::Relative => self.reached(threshold),
+            MouseMode::Absolute { maximum: _ } => self.stays(),
+            MouseMode::Keycode { delta } => self.keyed(delta),
+        }
+    }
+
+    fn stays(self) -> Moved
+        ensures { λ r. ⌜ MovedAs (quiet self) r ⌝ }
+    {
+        Moved {
+            sending: Sending::none(),
+            mouse: self,
+        }
+    }
+
+    // Where either axis reaches its threshold, all is sent.
+    fn reached(self, threshold: Axes) -> Moved
+        requires { ⌜ (size (self .held .x) ≤ 65000) × (size (self .held .y) ≤ 65000) ⌝ }
+        ensures { λ r. ⌜ MovedAs (motion-due Relative threshold self) r ⌝ }
+    {
+        if either_reaches(threshold, self.held) {
+            return self.send_all(0);
+        }
+        self.stays()
+    }
+
+    // All held motion, in `least` packets at least.
+    pub(crate) fn send_all(self, least: u16) -> Moved
+        requires { ⌜ (size (self .held .x) ≤ 65000) × (size (self .held .y) ≤ 65000) ⌝ }
+        ensures { λ r. ⌜ MovedAs (send-all least self) r ⌝ }
+    {
+        let held = self.held;
+        let x = held.x;
+        let y = held.y;
+        let n = motion::larger(x.packets_needed(), y.packets_needed());
+        let sending = Sending {
+            packets: motion::larger(least, n),
+            left: self.left,
+            right: self.right,
+            held,
+            arrows: Motions::at_rest(),
+        };
+        let mouse = Mouse {
+            held: Motions::at_rest(),
+            ..self
+        };
+        Moved { sending, mouse }
+    }
+
+    // Whole deltas become arrow keys, and the remainder stays held.
+    fn keyed(self, delta: Axes) -> Moved
+        ensures { λ r. ⌜ MovedAs (keyed delta self) r ⌝ }
+    {
+        let sending = Sending {
+            packets: 0,
+            left: false,
+            right: false,
+            held: Motions::at_rest(),
+            arrows: quotients(delta, self.held),
+        };
+        let mouse = Mouse {
+            held: remainders(delta, self.held),
+            ..self
+        };
+        Moved { sending, mouse }
+    }
+
+    // Held motion moves the coordinates, by its scale; the remainder stays held.
+    fn steered(self, maximum: Point, scale: Axes) -> Mouse
+        ensures { λ r. ⌜ r ≡ steered maximum scale self ⌝ }
+    {
+        let steps = quotients(scale, self.held);
+        let x = steps.x;
+        let y = steps.y;
+        let place = Point {
+            x: x.moves(maximum.x, self.place.x),
+            y: y.moves(maximum.y, self.place.y),
+        };
+        Mouse {
+            place,
+            held: remainders(scale, self.held),
+            ..self
+        }
+    }
+}
+
+// Held motion with what an event brings.
+fn gathered(settings: Settings, dx: i16, dy: i16, held: Motions) -> Motions
+    requires { ⌜ (natAbs dx ≤ 64) × (natAbs dy ≤ 64) ⌝ }
+    requires { ⌜ (size (held .x) ≤ held-limit) × (size (held .y) ≤ held-limit) ⌝ }
+    ensures { λ r. ⌜ r ≡ gathered settings dx dy held ⌝ }
+{
+    let d = incoming(settings, dx, dy);
+    let x = held.x;
+    let y = held.y;
+    Motions {
+        x: x.add(d.x),
+        y: y.add(d.y),
+    }
+}
+
+// What an event brings: origin bottom negates dy, except in keycode mode.
+fn incoming(settings: Settings, dx: i16, dy: i16) -> Motions
+    ensures { λ r. ⌜ r ≡ incoming settings dx dy ⌝ }
+{
+    let x = Motion::of_signed(dx);
+    let y = Motion::of_signed(dy);
+    let mode = settings.mouse;
+    if turns_y(mode, settings.bottom) {
+        let turned = y.opposite();
+        return Motions { x, y: turned };
+    }
+    Motions { x, y }
+}
+
+fn turns_y(mode: MouseMode, bottom: bool) -> bool
+    ensures { λ r. ⌜ r ≡ turns-y mode bottom ⌝ }
+{
+    match mode {
+        MouseMode::Relative => bottom,
+        MouseMode::Absolute { maximum: _ } => bottom,
+        MouseMode::Keycode { delta: _ } => false,
+    }
+}
+
+fn either_reaches(threshold: Axes, d: Motions) -> bool
+    requires { ⌜ (size (d .x) ≤ 65000) × (size (d .y) ≤ 65000) ⌝ }
+    ensures { λ r. ⌜ r ≡ either-reaches threshold d ⌝ }
+{
+    let x = d.x;
+    if x.reaches(protocol::acts_as(threshold.x)) {
+        return true;
+    }
+    let y = d.y;
+    y.reaches(protocol::acts_as(threshold.y))
+}
+
+fn quotients(scale: Axes, d: Motions) -> Motions
+    ensures { λ r. ⌜ r ≡ quotients scale d ⌝ }
+{
+    let x = d.x;
+    let y = d.y;
+    Motions {
+        x: x.quotient(protocol::acts_as(scale.x)),
+        y: y.quotient(protocol::acts_as(scale.y)),
+    }
+}
+
+fn remainders(scale: Axes, d: Motions) -> Motions
+    ensures { λ r. ⌜ r ≡ remainders scale d ⌝ }
+{
+    let x = d.x;
+    let y = d.y;
+    Motions {
+        x: x.remainder(protocol::acts_as(scale.x)),
+        y: y.remainder(protocol::acts_as(scale.y)),
+    }
+}
