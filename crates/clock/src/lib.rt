@@ -91,8 +91,8 @@ impl Clock {
         let month = field(1, 12, self.month, params[1]);
         let day = field(1, 31, self.day, params[2]);
         Clock {
-            year: year,
-            month: month,
+            year,
+            month,
             day: smaller(day, month_length(year, month)),
             hour: field(0, 23, self.hour, params[3]),
             minute: field(0, 59, self.minute, params[4]),

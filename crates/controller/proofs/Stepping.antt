@@ -102,7 +102,7 @@ module _ (s : State) (i : Input) (h : IsState s) (f : (due s i ≡ event-due i s
         ap₂ _++_ (w .buffer ∙ ap₂ over (a .bytes) (take-all (queue-room - s .queue .len) free size)) (drop-of-length-le free size) ∙ append-nil (over bs free) in
         let count : k ≡ length bs = w .count ∙ ap length (a .bytes) in
         let grown : _≡_ {A = Queue} (record { bytes = take (s .queue .len) (s .queue .bytes) ++ (part ++ drop (queue-room - s .queue .len) free); len = s .queue .len + k })
-            (record { bytes = take (s .queue .len) (s .queue .bytes) ++ over bs free; len = s .queue .len + length bs }) =
+        (record { bytes = take (s .queue .len) (s .queue .bytes) ++ over bs free; len = s .queue .len + length bs }) =
         (λ j. record { bytes = take (s .queue .len) (s .queue .bytes) ++ put j; len = s .queue .len + count j }) in
         kept s i h (f .1)
         (taken-did s i (event-due i s) (f .0) (paused-taken s i (length l) (f .0) e p t (omega (arith, counted)))

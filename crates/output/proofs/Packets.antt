@@ -1,12 +1,12 @@
 -- Laws of packets and their bytes.
 -- Assumes nothing.
-use Prim.Native.Nat.{ℕ, zero, suc, _+_, _*_, _≤_}
+use Prim.Native.Nat.{ℕ, zero, suc, _*_}
 use native.Mathlib.Omega.{arith}
 use mathlib.Core.Path.{_≡_, refl, ap, _∙_, sym}
 use mathlib.Core.List.{List, [], _∷_, _++_, append-assoc}
-use lib.ListN.{length, length-append}
+use lib.ListN.{length}
 use Rattle.output.specs.ScanCodes.{break-of}
-use Rattle.output.specs.Packets.{Packet, scan, motion, position, time, sticks, stick, monitor, samples, status, version, bytes-of, bytes, pairs}
+use Rattle.output.specs.Packets.{Packet, bytes-of, bytes, pairs}
 
 -- packets of two lists are those of one and then those of the other
 pub bytes-append : (ps qs : List Packet) → bytes (ps ++ qs) ≡ bytes ps ++ bytes qs

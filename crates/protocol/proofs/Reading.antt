@@ -3,16 +3,17 @@
 use Prim.Native.Nat.{ℕ, zero, suc, _+_, _-_, _≤_, _<_}
 use native.Mathlib.Omega.{arith}
 use mathlib.Core.Path.{_≡_, refl, sym, ap, _∙_, subst}
-use mathlib.Core.Bool.{Bool, true, false, cond, _&&_}
+use mathlib.Core.Bool.{Bool, true, false, cond, _&&_, true≢false}
 use mathlib.Core.List.{List, [], _∷_}
 use lib.Dec.{eqb, leb, ltb}
 use lib.ListN.{length, getD, set, drop, replicate, length-set}
 use lib.Seq.{drop-set-lt, drop-drop, getD-set-same}
 use borrow.Author.Tests.{ltb-true, ltb-false, leb-true, eqb-true, eqb-false, eq-eqb, ne-eqb}
 use Rattle.protocol.specs.declared.Command.{Command}
+use Rattle.protocol.specs.declared.Received.{Received}
 use Rattle.protocol.specs.declared.Meaning.the-variants.{Nothing}
 use Rattle.protocol.specs.Codes.{Entry, entry, table, find, line, parameters-of, memory-load}
-use Rattle.protocol.specs.Reading.{most-parameters, zeros, no-command, Fed, half, whole, begin, take-parameter, take-data, feed, command-after, AllBytes, missing, data-told, IsCommand, OneCommand}
+use Rattle.protocol.specs.Reading.{most-parameters, zeros, no-command, Fed, half, whole, begin, take-parameter, take-data, feed, command-after, AllBytes, missing, data-told, IsCommand, OneCommand, received-of}
 
 -- both ways of a test, each with what it tells
 both-ways : {A : Type 0} (P : A → Type 0) (t : Bool) {a b : A} → (t ≡ true → P a) → (t ≡ false → P b) → P (cond t a b)
@@ -172,3 +173,17 @@ pub command-is : (f : Fed) → Fine f → IsCommand (command-after f) × OneComm
 unfolding command-after
 command-is (half c) h = h
 command-is (whole code ps) h = (no-command-is, no-command-one)
+
+-- what the code hands on tells what the byte came to
+pub when-whole : (f : Fed) (r : Received) → r ≡ received-of f → r .whole ≡ true → f ≡ whole (r .code) (r .params)
+when-whole (half c) r e t = absurd (true≢false (sym t ∙ ap (λ (x : Received). x .whole) e))
+when-whole (whole code ps) r e t = subst (λ (x : Received). whole code ps ≡ whole (x .code) (x .params)) (sym e) refl
+
+pub when-half : (f : Fed) (r : Received) → r ≡ received-of f → r .whole ≡ false → f ≡ half (r .command)
+when-half (half c) r e t = subst (λ (x : Received). half c ≡ half (x .command)) (sym e) refl
+when-half (whole code ps) r e t = absurd (true≢false (sym (ap (λ (x : Received). x .whole) e) ∙ t))
+
+pub received-command : (f : Fed) (r : Received) → r ≡ received-of f → r .command ≡ command-after f
+unfolding command-after
+received-command (half c) r e = ap (λ (x : Received). x .command) e
+received-command (whole code ps) r e = ap (λ (x : Received). x .command) e

@@ -3,14 +3,13 @@ ghost use mathlib.Core.Path.{_≡_};
 ghost use Rattle.output.specs.Packets.{status, bytes-of};
 ghost use Rattle.output.specs.Short.{short-of};
 ghost use Rattle.protocol.specs.Replies.{mouse-reply, stick-reply, reply};
-use crate::Axes;
 use crate::Inquiry;
 use crate::MouseMode;
 use crate::Settings;
 use crate::StickMode;
 use output::Short;
 
-// A command of no parameters, and one of two.
+// The reply whose command has no parameters, and that with one or two.
 fn alone(code: u8) -> Short
     ensures { λ r. ⌜ r ≡ short-of (bytes-of (status code 0 0 0 0 0 0)) ⌝ }
 {

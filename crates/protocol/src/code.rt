@@ -1,6 +1,6 @@
 // The command codes: how many parameter bytes follow each, and what it means (document 01, "Reading commands").
 ghost use mathlib.Core.Path.{_≡_};
-ghost use Prim.Native.Nat.{_≤_, _<_};
+ghost use Prim.Native.Nat.{_≤_};
 ghost use Rattle.protocol.specs.Codes.{parameters-of, meaning-of};
 use crate::Inquiry;
 use crate::Meaning;
@@ -57,7 +57,7 @@ pub fn parameters_of(code: u8) -> u8
     if code == 0x80 { 1 } else { 0 }
 }
 
-// Each half of the dispatch is asked only for its own range of codes.
+// The second level of `meaning_of`: each function is asked only for its own range of codes.
 fn mouse_meaning(code: u8) -> Meaning
     requires { ⌜ (0x07 ≤ code) × (code ≤ 0x10) ⌝ }
     ensures { λ r. ⌜ r ≡ meaning-of code ⌝ }
@@ -91,7 +91,7 @@ fn stick_meaning(code: u8) -> Meaning
     }
 }
 
-// By the rule of adding 0x80, an inquiry has the code of any command that sets what it asks for.
+// By the rule of adding 0x80: an inquiry has a code for each command that sets what it asks for.
 fn inquiry_meaning(code: u8) -> Meaning
     requires { ⌜ (0x87 ≤ code) × (code ≤ 0x9A) ⌝ }
     ensures { λ r. ⌜ r ≡ meaning-of code ⌝ }

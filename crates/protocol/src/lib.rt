@@ -4,7 +4,7 @@ ghost use Rattle.protocol.specs.Reading.{no-command};
 ghost use Rattle.protocol.specs.Settings.{power-up, acts-as, monitors, is-absolute, is-mouse, is-joystick};
 
 mod answer;
-pub mod code;
+mod code;
 mod read;
 mod set;
 

@@ -9,7 +9,7 @@ use crate::code::parameters_of;
 // The one command with data: its third parameter says how many bytes follow.
 const MEMORY_LOAD: u8 = 0x20;
 
-// The command is still half received.
+// What a byte came to, as the code hands it on.
 fn half_received(command: Command) -> Received
     ensures { λ r. ⌜ r ≡ received-of (half command) ⌝ }
 {
@@ -17,7 +17,7 @@ fn half_received(command: Command) -> Received
         whole: false,
         code: 0,
         params: [0; 6],
-        command: command,
+        command,
     }
 }
 
@@ -26,14 +26,9 @@ fn whole_received(code: u8, params: [u8; 6]) -> Received
 {
     Received {
         whole: true,
-        code: code,
-        params: params,
-        command: Command {
-            code: 0,
-            come: 0,
-            params: [0; 6],
-            pending: 0,
-        },
+        code,
+        params,
+        command: Command::none(),
     }
 }
 
@@ -76,18 +71,18 @@ impl Command {
         let come = self.come + 1;
         if come < parameters_of(code) {
             return half_received(Command {
-                code: code,
-                come: come,
-                params: params,
+                code,
+                come,
+                params,
                 pending: 0,
             });
         }
         if code == MEMORY_LOAD {
             if 0 < b {
                 return half_received(Command {
-                    code: code,
-                    come: come,
-                    params: params,
+                    code,
+                    come,
+                    params,
                     pending: b,
                 });
             }

@@ -216,7 +216,7 @@ impl Settings {
         ensures { λ r. ⌜ r ≡ with-action action self ⌝ }
     {
         Settings {
-            action: action,
+            action,
             port0: Role::ForMouse,
             ..self
         }
@@ -226,7 +226,7 @@ impl Settings {
         ensures { λ r. ⌜ r ≡ with-threshold threshold self ⌝ }
     {
         Settings {
-            threshold: threshold,
+            threshold,
             port0: Role::ForMouse,
             ..self
         }
@@ -236,7 +236,7 @@ impl Settings {
         ensures { λ r. ⌜ r ≡ with-scale scale self ⌝ }
     {
         Settings {
-            scale: scale,
+            scale,
             port0: Role::ForMouse,
             ..self
         }
@@ -246,7 +246,7 @@ impl Settings {
         ensures { λ r. ⌜ r ≡ with-origin bottom self ⌝ }
     {
         Settings {
-            bottom: bottom,
+            bottom,
             port0: Role::ForMouse,
             ..self
         }

@@ -2,14 +2,13 @@
 -- Assumes nothing.
 use Prim.Native.Nat.{ℕ, _+_, _≤_, _<_}
 use native.Mathlib.Omega.{arith}
-use mathlib.Core.Path.{_≡_, refl, sym, ap, _∙_}
+use mathlib.Core.Path.{_≡_, sym, ap, _∙_}
 use mathlib.Core.Bool.{Bool, true, false, cond}
 use mathlib.Core.List.{List, [], _∷_, _++_, append-nil, append-assoc}
 use lib.Dec.{eqb}
 use lib.ListN.{length, length-append}
-use Rattle.output.specs.declared.Short.{Short}
 use Rattle.output.specs.ScanCodes.{break-of}
-use Rattle.output.specs.Packets.{Packet, scan, bit, bytes, pair}
+use Rattle.output.specs.Packets.{scan, bit, bytes, pair}
 use Rattle.output.specs.Short.{short-room, short-of, added}
 use Rattle.output.proofs.Packets.{bytes-append}
 use Rattle.output.proofs.Runs.{short-added}

@@ -3,7 +3,7 @@
 use Prim.Native.Nat.{ℕ}
 use mathlib.Core.Path.{_≡_, refl, sym, ap, _∙_}
 use mathlib.Core.Bool.{Bool, true, false, cond, not, _&&_, and-false}
-use mathlib.Core.List.{List, [], _∷_, _++_, append-nil}
+use mathlib.Core.List.{List, [], _∷_, append-nil}
 use lib.Dec.{eqb}
 use Rattle.output.specs.declared.Short.{Short}
 use Rattle.output.specs.ScanCodes.{code-sent, key-left, key-right}
@@ -16,8 +16,8 @@ use Rattle.protocol.specs.declared.Settings.{Settings}
 use Rattle.sticks.specs.declared.Stick.{Stick}
 use Rattle.sticks.specs.declared.Sticks.{Sticks}
 use Rattle.sticks.specs.declared.SticksTold.{SticksTold}
-use Rattle.sticks.specs.Sticks.{SticksDue, CountDue, quiet, told-of, stick-at, horizontal, vertical}
-use Rattle.sticks.specs.Events.{stored, with-counts, heard, steers, trigger-keys, turned, turned-x, turned-y, cursor-moved, moved-in, moved}
+use Rattle.sticks.specs.Sticks.{quiet, told-of, stick-at, horizontal, vertical}
+use Rattle.sticks.specs.Events.{stored, heard, steers, trigger-keys, turned-x, turned-y, cursor-moved, moved-in, moved}
 use Rattle.sticks.specs.Ticks.{aged, both-aged}
 use Rattle.sticks.specs.Keys.{scan-of, trigger-code, keyed, steered}
 

@@ -9,16 +9,25 @@ use crate::AxisTold;
 use crate::Count;
 use protocol::Repeat;
 
+// The make codes of the arrow keys.
+const RIGHT: u8 = 0x4D;
+
+const LEFT: u8 = 0x4B;
+
+const UP: u8 = 0x48;
+
+const DOWN: u8 = 0x50;
+
 pub(crate) fn horizontal(position: u8) -> u8
     ensures { λ r. ⌜ r ≡ horizontal position ⌝ }
 {
-    direction(position / 4 % 2 == 1, 0x4B, position / 8 % 2 == 1, 0x4D)
+    direction(position / 4 % 2 == 1, LEFT, position / 8 % 2 == 1, RIGHT)
 }
 
 pub(crate) fn vertical(position: u8) -> u8
     ensures { λ r. ⌜ r ≡ vertical position ⌝ }
 {
-    direction(position % 2 == 1, 0x48, position / 2 % 2 == 1, 0x50)
+    direction(position % 2 == 1, UP, position / 2 % 2 == 1, DOWN)
 }
 
 // Of two opposite switches, each with its arrow: both closed are none.
@@ -44,10 +53,7 @@ pub(crate) fn turned(old: u8, new: u8, count: Count) -> AxisTold
     ensures make { λ r. ⌜ r .arrow ≤ 0x7F ⌝ }
 {
     if old == new {
-        return AxisTold {
-            arrow: 0,
-            count: count,
-        };
+        return AxisTold { arrow: 0, count };
     }
     AxisTold {
         arrow: new,
@@ -62,35 +68,27 @@ pub(crate) fn aged(repeat: Repeat, arrow: u8, count: Count) -> AxisTold
     ensures make { λ r. ⌜ r .arrow ≤ 0x7F ⌝ }
 {
     if arrow == 0 {
-        return AxisTold {
-            arrow: 0,
-            count: count,
-        };
+        return AxisTold { arrow, count };
     }
     let age = one_more(count.age);
     let wait = one_more(count.wait);
     let every = interval(repeat, age);
+    let later = Count { age, wait };
     if every == 0 {
         return AxisTold {
             arrow: 0,
-            count: Count {
-                age: age,
-                wait: wait,
-            },
+            count: later,
         };
     }
     if wait < every {
         return AxisTold {
             arrow: 0,
-            count: Count {
-                age: age,
-                wait: wait,
-            },
+            count: later,
         };
     }
     AxisTold {
-        arrow: arrow,
-        count: Count { age: age, wait: 0 },
+        arrow,
+        count: Count { age, wait: 0 },
     }
 }
 
@@ -101,15 +99,12 @@ fn one_more(n: u16) -> u16
     if n < 2551 { n + 1 } else { 2551 }
 }
 
-// How many ticks lie between two arrow keys, at this age; 0 for no repeat.
+// How many ticks lie between two arrow keys, at this age; 0 for no repeat. A breakpoint of 0 lies before every age.
 fn interval(repeat: Repeat, age: u16) -> u16
+    requires { ⌜ 1 ≤ age ⌝ }
     ensures { λ r. ⌜ r ≡ interval repeat age ⌝ }
 {
-    let breakpoint = 10 * (repeat.breakpoint as u16);
-    if breakpoint == 0 {
-        return 10 * (repeat.after as u16);
-    }
-    if age <= breakpoint {
+    if age <= 10 * (repeat.breakpoint as u16) {
         return 10 * (repeat.before as u16);
     }
     10 * (repeat.after as u16)

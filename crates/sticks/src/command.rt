@@ -52,16 +52,16 @@ impl Sticks {
     }
 
     // A monitoring mode that is left takes what it has gathered with it.
-    fn left_from(self, mode: StickMode) -> Self
+    fn left_from(mut self, mode: StickMode) -> Self
         ensures { λ r. ⌜ r ≡ left-from mode self ⌝ }
     {
         match mode {
-            StickMode::Monitoring { rate: _ } | StickMode::Fire => Sticks {
-                ticks: 0,
-                samples: 0,
-                bits: 0,
-                ..self
-            },
+            StickMode::Monitoring { rate: _ } | StickMode::Fire => {
+                self.ticks = 0;
+                self.samples = 0;
+                self.bits = 0;
+                self
+            }
             _ => self,
         }
     }

@@ -20,6 +20,11 @@ use protocol::Role;
 use protocol::Settings;
 use protocol::StickMode;
 
+// The triggers as keys: the codes of the mouse's buttons.
+const TRIGGER_ZERO: u8 = 0x74;
+
+const TRIGGER_ONE: u8 = 0x75;
+
 impl Sticks {
     // Stick 0 or 1 now stands so.
     pub fn moved(self, settings: Settings, one: bool, new: Stick) -> SticksTold
@@ -63,13 +68,15 @@ impl Sticks {
         self.zero
     }
 
-    fn stored(self, one: bool, new: Stick) -> Self
+    fn stored(mut self, one: bool, new: Stick) -> Self
         ensures { λ r. ⌜ r ≡ stored one new self ⌝ }
     {
         if one {
-            return Sticks { one: new, ..self };
+            self.one = new;
+            return self;
         }
-        Sticks { zero: new, ..self }
+        self.zero = new;
+        self
     }
 
     // Stick 0 has come from the position `old` to where it stands, in keycode mode; `code` is its trigger's, 0 for none.
@@ -128,9 +135,9 @@ fn trigger_code(on: bool, one: bool, old: bool, new: bool) -> u8
         return 0;
     }
     if one {
-        return output::code_sent(0x75, new);
+        return output::code_sent(TRIGGER_ONE, new);
     }
-    output::code_sent(0x74, new)
+    output::code_sent(TRIGGER_ZERO, new)
 }
 
 fn same(a: bool, b: bool) -> bool

@@ -13,19 +13,17 @@ use output::Short;
 
 impl Sticks {
     // Both axes of stick 0, and a code, 0 for none.
-    pub(crate) fn keyed(self, x: AxisTold, y: AxisTold, code: u8) -> SticksTold
+    pub(crate) fn keyed(mut self, x: AxisTold, y: AxisTold, code: u8) -> SticksTold
         requires { ⌜ (x .arrow ≤ 0x7F) × (y .arrow ≤ 0x7F) ⌝ }
         ensures { λ r. ⌜ r ≡ told-of (keyed (due-of x) (due-of y) code self) ⌝ }
     {
         let countx = x.count;
         let county = y.count;
+        self.x = countx;
+        self.y = county;
         SticksTold {
             short: keys(x.arrow, y.arrow, code),
-            sticks: Sticks {
-                x: countx,
-                y: county,
-                ..self
-            },
+            sticks: self,
         }
     }
 }

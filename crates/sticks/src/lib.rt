@@ -40,9 +40,9 @@ pub struct SticksTold {
 }
 
 // The same for one axis of stick 0 in keycode mode: the make code of the arrow key that is due, 0 for none, and the counts afterwards.
-pub struct AxisTold {
-    pub arrow: u8,
-    pub count: Count,
+pub(crate) struct AxisTold {
+    arrow: u8,
+    count: Count,
 }
 
 impl Stick {

@@ -15,6 +15,7 @@ use protocol::Settings;
 use protocol::StickMode;
 
 impl Sticks {
+    // Paused, a tick moves only the clock.
     pub fn ticked(self, paused: bool, settings: Settings) -> SticksTold
         requires { ⌜ IsSticks (settings .stick) self ⌝ }
         ensures { λ r. ⌜ r ≡ told-of (ticked paused settings self) ⌝ }
@@ -36,7 +37,7 @@ impl Sticks {
         }
     }
 
-    // `b` is a sample of the fire button.
+    // `b` is a sample of the fire button; paused, it is dropped.
     pub fn sampled(self, paused: bool, settings: Settings, b: u8) -> SticksTold
         requires { ⌜ b ≤ 1 ⌝ }
         requires { ⌜ IsSticks (settings .stick) self ⌝ }

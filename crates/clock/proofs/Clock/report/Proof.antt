@@ -27,7 +27,7 @@ to-bcd-requires-6 c κs = search needs
 
 returns : tie.Need-returns
 unfolding report
-returns c = cc
+returns c = simp (c .to-bcd6 .ensures, c .before .to-bcd5 .ensures, c .before .before .to-bcd4 .ensures, c .before .before .before .to-bcd3 .ensures, c .before .before .before .before .to-bcd2 .ensures, c .before .before .before .before .before .to-bcd .ensures)
 
 pub report-spec : {M : Type 1} → statement M
 report-spec =

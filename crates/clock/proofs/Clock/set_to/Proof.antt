@@ -49,7 +49,7 @@ field-requires-6 c κs = search needs
 
 returns : tie.Need-returns
 unfolding set-to
-returns c = cc
+returns c = simp (c .field6 .ensures, c .before .field5 .ensures, c .before .before .field4 .ensures, c .before .before .before .smaller .ensures, c .before .before .before .before .month-length .ensures, c .before .before .before .before .before .field3 .ensures, c .before .before .before .before .before .before .field2 .ensures, c .before .before .before .before .before .before .before .field .ensures)
 
 pub set-to-spec : {M : Type 1} → statement M
 set-to-spec =

@@ -23,7 +23,7 @@ write-requires-2 : tie.Need-write-requires-2
 write-requires-2 c κs = search needs
 
 add-result : tie.Need-add-result
-add-result c = 
+add-result c =
     let s = c .before .before .before .before .before .before .before .before .before .args in
     omega (arith, c .before .before .before .before .before .before .write .ensures .count, c .before .before .write2 .ensures .count, length-take (s .short .len) (s .short .bytes), c .before .before .before .before .before .before .before .before .before .pre)
 

@@ -8,7 +8,7 @@ leave-monitoring-requires : tie.Need-leave-monitoring-requires
 leave-monitoring-requires c κs = search needs
 
 returns : tie.Need-returns
-returns c = cc
+returns c = rw (c .before .before .leave-monitoring .ensures)
 
 pub without-sticks-spec : {M : Type 1} → statement M
 without-sticks-spec = tie.close (tie.spec leave-monitoring-requires returns)

@@ -23,7 +23,7 @@ word-requires-2 : tie.Need-word-requires-2
 word-requires-2 c κs = search needs
 
 returns : tie.Need-returns
-returns c = cc
+returns c = rw (c .before .word .ensures, c .word2 .ensures)
 
 pub point-spec : {M : Type 1} → statement M
 point-spec =

@@ -8,7 +8,7 @@ keys-requires : tie.Need-keys-requires
 keys-requires c κs = search needs
 
 returns : tie.Need-returns
-returns c = simp (c .before .before .keys .ensures)
+returns c = simp (c .keys .ensures)
 
 pub keyed-spec : {M : Type 1} → statement M
 keyed-spec = tie.close (tie.spec keys-requires returns)

@@ -7,7 +7,7 @@ use Rattle.sticks.proofs.Sticks.left_from.Tie as tie
 
 returns : tie.Need-returns
 unfolding left-from
-returns c = simp (monitoring (c .before .before .before .before .before .args .mode) (c .before .before .before .before .match .keys1))
+returns c = simp (monitoring (c .before .args .mode) (c .match .keys1))
 
 returns-2 : tie.Need-returns-2
 unfolding left-from

@@ -1,6 +1,5 @@
 -- `sticks::Sticks::moved` meets its contract.
 -- Assumes nothing.
-use native.Mathlib.Omega.{arith}
 use borrow.Author.Needs.{needs}
 use Rattle.sticks.specs.Events.{heard, reported, moved-in, moved}
 use Rattle.sticks.proofs.States.{stick-most}

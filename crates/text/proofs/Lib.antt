@@ -1,0 +1,10 @@
+pub mod Fields
+pub mod Lengths
+pub mod Decimals
+pub mod Signs
+pub mod Fronts
+pub mod Fixed
+pub mod Letters
+pub mod Counting
+pub mod Shown
+pub mod Examples

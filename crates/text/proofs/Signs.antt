@@ -1,0 +1,167 @@
+-- Laws of numbers with an optional minus: from the digits to the number, in definitions and in the machine's 16 bits.
+-- Assumes nothing.
+use Prim.Native.Char.{code}
+use Prim.Native.Nat.{ℕ, zero, suc, _+_, _-_, _*_, _^_, _≤_, _<_}
+use native.Mathlib.Numerals.{add-one}
+use native.Mathlib.Nat.{add-zero, pow-succ', pow-le-pow-right}
+use native.Mathlib.Omega.{arith}
+use mathlib.Core.Path.{_≡_, refl, sym, ap, _∙_, subst}
+use mathlib.Core.Bool.{Bool, true, false, cond, _&&_}
+use mathlib.Core.List.{List, [], _∷_}
+use mathlib.Core.Option.{Option, none, some, Option·map, Option·none-ne-some, Option·some-injective}
+use lib.Dec.{eqb, leb}
+use lib.ListN.{length, take, drop, getD}
+use lib.IntN.{ℤ, pos, negsuc, negℤ, _-ℤ_, +ℤ-idl}
+use mir.Syntax.{w16}
+use mir.Val.{SFits, toZ, ofZ}
+use mir.ValLaws.{toZ-ofZ, toZ-pos}
+use borrow.Author.Tests.{leb-true, eq-eqb, ne-eqb}
+use Rattle.output.proofs.Cases.{and-true}
+use Rattle.text.specs.declared.numbers.Digits.{Digits}
+use Rattle.text.specs.declared.numbers.Digits.the-variants.{Natural, NoNatural}
+use Rattle.text.specs.declared.numbers.Front.{Front}
+use Rattle.text.specs.declared.numbers.Front.the-variants.{Number, NoNumber}
+use Rattle.text.specs.Line.{tab, digits, value, natural, number}
+use Rattle.text.specs.Fronts.{first, digits-read, digits-of, number-read, front-of}
+use Rattle.text.proofs.Fields.{first-most, rest-of}
+
+-- ---- four digits make at most 9999
+
+value-small : (l : List ℕ) (v k : ℕ) → v < 10 ^ k → digits l ≡ true → value v l < 10 ^ (k + length l)
+value-small [] v k h e = rw (add-zero k) h
+value-small (b ∷ l) v k h e =
+    let p = and-true (leb (code "0") b && leb b (code "9")) (digits l) e in
+    let q = and-true (leb (code "0") b) (leb b (code "9")) (p .0) in
+    let lo = leb-true (code "0") b (q .0) in
+    let hi = leb-true b (code "9") (q .1) in
+    let w : v * 10 + (b - code "0") < 10 ^ suc k = (let e = pow-succ' 10 k in omega arith) in
+    subst (λ (n : ℕ). value (v * 10 + (b - code "0")) l < 10 ^ n) (omega arith) (value-small l (v * 10 + (b - code "0")) (suc k) w (p .1))
+
+natural-small : (f : List ℕ) (v : ℕ) → natural f ≡ some v → v ≤ 9999
+unfolding natural
+natural-small f v = at (leb 1 (length f)) (leb (length f) 4) (digits f) (λ e. e) (λ e. e)
+  where
+    at : (s t d : Bool) → (t ≡ true → leb (length f) 4 ≡ true) → (d ≡ true → digits f ≡ true) → cond (s && t && d) (some (value 0 f)) none ≡ some v → v ≤ 9999
+    at false t d p q e = absurd (Option·none-ne-some v e)
+    at true false d p q e = absurd (Option·none-ne-some v e)
+    at true true false p q e = absurd (Option·none-ne-some v e)
+    at true true true p q e =
+        let w = value-small f 0 0 (omega arith) (q refl) in
+        let m : 10 ^ (0 + length f) ≤ 10 ^ 4 = pow-le-pow-right {n = 10} (omega arith) {i = 0 + length f} {j = 4} (omega (arith, leb-true (length f) 4 (p refl))) in
+        omega (arith, Option·some-injective (value 0 f) v e)
+
+-- digits that were read make at most 9999, and stand in the text
+pub digits-small : (s : List ℕ) (v n : ℕ) → Natural v n ≡ digits-of s → (v ≤ 9999) × (n ≤ length s)
+unfolding digits-of
+digits-small s v n = at (natural (first s)) (λ v e. natural-small (first s) v e)
+  where
+    at : (o : Option ℕ) → ((v : ℕ) → o ≡ some v → v ≤ 9999) → Natural v n ≡ digits-read o (length (first s)) → (v ≤ 9999) × (n ≤ length s)
+    at none h e = let z : _≡_ {A = ℕ} 0 1 = cc in absurd (omega arith)
+    at (some x) h e = let p : v ≡ x = cc in let q = h x refl in let m : n ≡ length (first s) = cc in (omega arith, omega (arith, first-most s))
+
+-- what was made of something read: that was read, and it is made of it
+mapped-is : {A B : Type 0} {P : Type 0} (g : A → B) (o : Option A) (y : B) → Option·map g o ≡ some y → ((x : A) → o ≡ some x → g x ≡ y → P) → P
+mapped-is g none y e p = absurd (Option·none-ne-some y e)
+mapped-is g (some x) y e p = p x refl (Option·some-injective (g x) y e)
+
+-- ---- the minus
+
+abbrev minus : Digits → Front
+minus (Natural v n) = Number (negℤ (pos v)) (n + 1)
+minus NoNatural = NoNumber
+
+abbrev plain : Digits → Front
+plain (Natural v n) = Number (pos v) n
+plain NoNatural = NoNumber
+
+pub empty-front : (s : List ℕ) → length s ≡ 0 → NoNumber ≡ front-of s
+unfolding front-of number first
+empty-front [] e = refl
+empty-front (b ∷ s) e = absurd (omega arith)
+
+minus-is : (b : ℕ) (l : List ℕ) → b ≡ code "-" → minus (digits-of l) ≡ front-of (b ∷ l)
+unfolding digits-of front-of number first
+minus-is b l e =
+    rw (ne-eqb b tab (omega arith), eq-eqb b (code "-") e) (at (natural (first l)))
+  where
+    at : (o : Option ℕ) → minus (digits-read o (length (first l))) ≡ number-read (Option·map (λ n. negℤ (pos n)) o) (suc (length (first l)))
+    at none = refl
+    at (some v) = rw (add-one (length (first l))) refl
+
+plain-is : (b : ℕ) (l : List ℕ) → (b ≡ code "-" → ⊥) → plain (digits-of (b ∷ l)) ≡ front-of (b ∷ l)
+unfolding digits-of front-of number first natural
+plain-is b l e = tested (eqb b tab)
+  where
+    at : (n : ℕ) (o : Option ℕ) → plain (digits-read o n) ≡ number-read (Option·map pos o) n
+    at n none = refl
+    at n (some v) = refl
+
+    tested : (t : Bool) → plain (digits-read (natural (cond t [] (b ∷ first l))) (length (cond t [] (b ∷ first l)))) ≡ number-read (number (cond t [] (b ∷ first l))) (length (cond t [] (b ∷ first l)))
+    tested true = refl
+    tested false = rw (ne-eqb b (code "-") e) (at (suc (length (first l))) (natural (b ∷ first l)))
+
+-- ---- in the machine: v, which is at most 9999, as a signed number, and 0 less it
+
+below-fits : (v : ℕ) → v ≤ 9999 → SFits w16 (negℤ (pos v))
+below-fits zero h = record { sfits = omega arith }
+below-fits (suc v) h = record { sfits = omega arith }
+
+module _ (v : ℕ) (h : v ≤ 9999) where
+  pub plain-fits : SFits w16 (pos v)
+  plain-fits = record { sfits = omega arith }
+
+  plain-back : toZ w16 v ≡ pos v
+  plain-back = toZ-pos w16 v (omega arith)
+
+  minus-back : pos 0 -ℤ toZ w16 v ≡ negℤ (pos v)
+  minus-back = +ℤ-idl (negℤ (toZ w16 v)) ∙ ap negℤ plain-back
+
+  pub minus-fits : SFits w16 (pos 0 -ℤ toZ w16 v)
+  minus-fits = rw minus-back (below-fits v h)
+
+  minus-read : toZ w16 (ofZ w16 (pos 0 -ℤ toZ w16 v)) ≡ negℤ (pos v)
+  minus-read = toZ-ofZ w16 (pos 0 -ℤ toZ w16 v) minus-fits ∙ minus-back
+
+-- every number that is read fits
+pub number-fits : (f : List ℕ) (z : ℤ) → number f ≡ some z → SFits w16 z
+unfolding number
+number-fits = at
+  where
+    tested : (b : ℕ) (f : List ℕ) (z : ℤ) (t : Bool) → cond t (Option·map (λ n. negℤ (pos n)) (natural f)) (Option·map pos (natural (b ∷ f))) ≡ some z → SFits w16 z
+    tested b f z true e = mapped-is (λ n. negℤ (pos n)) (natural f) z e (λ v e g. rw (← g) (below-fits v (natural-small f v e)))
+    tested b f z false e = mapped-is pos (natural (b ∷ f)) z e (λ v e g. rw (← g) (plain-fits v (natural-small (b ∷ f) v e)))
+
+    at : (f : List ℕ) (z : ℤ) → number f ≡ some z → SFits w16 z
+    at [] z e = absurd (Option·none-ne-some z e)
+    at (b ∷ f) z e = tested b f z (eqb b (code "-")) e
+
+-- ---- a text that is not empty, by its first byte
+
+minus-front : (s : List ℕ) → (length s ≡ 0 → ⊥) → getD s 0 0 ≡ code "-" → minus (digits-of (take (length s - 1) (drop 1 s))) ≡ front-of s
+minus-front [] n e = absurd (n refl)
+minus-front (b ∷ l) n e = ap (λ (t : List ℕ). minus (digits-of t)) (rest-of 1 (b ∷ l)) ∙ minus-is b l e
+
+plain-front : (s : List ℕ) → (length s ≡ 0 → ⊥) → (getD s 0 0 ≡ code "-" → ⊥) → plain (digits-of s) ≡ front-of s
+plain-front [] n e = absurd (n refl)
+plain-front (b ∷ l) n e = plain-is b l e
+
+module _ (s : List ℕ) (some : length s ≡ 0 → ⊥) (r : Digits) where
+  module _ (e : getD s 0 0 ≡ code "-") (f : r ≡ digits-of (take (length s - 1) (drop 1 s))) where
+    pub minus-number : (v n : ℕ) → r ≡ Natural v n → Number (toZ w16 (ofZ w16 (pos 0 -ℤ toZ w16 v))) (n + 1) ≡ front-of s
+    minus-number v n g =
+        ap (λ (z : ℤ). Number z (n + 1)) (minus-read v (digits-small _ v n (sym g ∙ f) .0))
+        ∙ ap minus (sym g ∙ f)
+        ∙ minus-front s some e
+
+    pub minus-none : r ≡ NoNatural → NoNumber ≡ front-of s
+    minus-none g = ap minus (sym g ∙ f) ∙ minus-front s some e
+
+  module _ (e : getD s 0 0 ≡ code "-" → ⊥) (f : r ≡ digits-of s) where
+    pub plain-number : (v n : ℕ) → r ≡ Natural v n → Number (toZ w16 v) n ≡ front-of s
+    plain-number v n g =
+        ap (λ (z : ℤ). Number z n) (plain-back v (digits-small s v n (sym g ∙ f) .0))
+        ∙ ap plain (sym g ∙ f)
+        ∙ plain-front s some e
+
+    pub plain-none : r ≡ NoNatural → NoNumber ≡ front-of s
+    plain-none g = ap plain (sym g ∙ f) ∙ plain-front s some e

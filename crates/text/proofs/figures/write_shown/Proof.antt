@@ -1,0 +1,33 @@
+-- `text::figures::write_shown` meets its contract: a minus for no bytes, and two digits for each otherwise.
+-- Assumes nothing.
+use Rattle.text.proofs.Shown.{shown-none, shown-some}
+use borrow.Author.Needs.{needs}
+use Rattle.text.proofs.figures.write_shown.Statement.{statement}
+use Rattle.text.proofs.figures.write_shown.Tie as tie
+
+slice-write-out : tie.Need-slice-write-out
+slice-write-out c = search needs
+
+same-length : tie.Need-same-length
+same-length c = search needs
+
+returns : tie.Need-returns
+returns c = let start = c .before .before .before in shown-none _ _ _ (c .if1 .taken) (start .pre .2)
+
+write-hex-requires : tie.Need-write-hex-requires
+write-hex-requires c κs = search needs
+
+same-length-2 : tie.Need-same-length-2
+same-length-2 c = search needs
+
+returns-2 : tie.Need-returns-2
+returns-2 c =
+    let call = c .before .before in
+    let test = call .before .before in
+    let start = test .before .before .before in
+    shown-some _ _ _ _ _ (test .if1 .left) (start .pre .0) (call .write-hex .ensures)
+
+pub write-shown-spec : {M : Type 1} → statement M
+write-shown-spec =
+    tie.close
+    (tie.spec slice-write-out same-length returns write-hex-requires same-length-2 returns-2)

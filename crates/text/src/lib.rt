@@ -1,0 +1,94 @@
+// The text program's lines: what a line of input means, and the line of output for an answer.
+ghost use mathlib.Core.Path.{_≡_};
+ghost use Prim.Native.Nat.{_≤_, _<_, _^_};
+ghost use lib.ListN.{length, take};
+ghost use Rattle.output.specs.Writing.{Wrote};
+ghost use Rattle.text.specs.Line.{line-of, longest};
+ghost use Rattle.text.specs.Output.{header, output-line, line-room};
+use controller::Input;
+use mouse::Side;
+
+mod figures;
+mod kinds;
+mod numbers;
+
+// What a line means: an input, or none where the line is bad.
+pub enum Line {
+    Good(Input),
+    Bad,
+}
+
+impl Line {
+    // The most bytes of a good line: a longer one may be cut anywhere past them.
+    pub const LONGEST: usize = 19;
+
+    pub fn longest() -> usize
+        ensures { λ r. ⌜ r ≡ longest ⌝ }
+    {
+        Line::LONGEST
+    }
+}
+
+// The most bytes of an output line beside the two for each byte written: 20 digits, two tabs, the answer, `-` and the line feed.
+pub const LINE_REST: usize = 25;
+
+// Room for the output line of `n` bytes.
+pub fn line_room(n: usize) -> usize
+    requires { ⌜ n < 2 ^ 62 ⌝ }
+    ensures { λ r. ⌜ r ≡ line-room n ⌝ }
+{
+    2 * n + LINE_REST
+}
+
+// What a line means, given without its line feed.
+pub fn read_line(line: &[u8]) -> Line
+    ensures { λ r. ⌜ r ≡ line-of (now (line .entry)) ⌝ }
+{
+    let n = line.len();
+    if Line::LONGEST < n {
+        return Line::Bad;
+    }
+    if n == 0 {
+        return Line::Bad;
+    }
+    let kind = line[0];
+    if n == 1 {
+        if kind == b'T' {
+            return Line::Good(Input::Tick);
+        }
+        return Line::Bad;
+    }
+    if line[1] != b'\t' {
+        return Line::Bad;
+    }
+    let rest = &line[2..];
+    match kind {
+        b'B' => kinds::byte_line(rest),
+        b'K' => kinds::key_line(rest),
+        b'L' => kinds::button_line(Side::Left, rest),
+        b'R' => kinds::button_line(Side::Right, rest),
+        b'M' => kinds::motion_line(rest),
+        b'S' => kinds::stick_line(rest),
+        b'F' => kinds::sample_line(rest),
+        _ => Line::Bad,
+    }
+}
+
+pub fn write_header(out: &mut [u8]) -> usize
+    requires { ⌜ length header ≤ length (now out) ⌝ }
+    ensures { λ r. ⌜ Wrote header r (now (out .entry)) (now (out .exit)) ⌝ }
+{
+    output::copy(b"line\tanswer\tbytes\n", 18, out)
+}
+
+// The output line for the input line with this number: the answer, and the first `n` of `bytes`.
+pub fn write_line(number: u64, answer: u8, bytes: &[u8], n: usize, out: &mut [u8]) -> usize
+    requires { ⌜ (answer ≤ 9) × (n ≤ length (now bytes)) × (line-room n ≤ length (now out)) ⌝ }
+    ensures { λ r. ⌜ Wrote (output-line number answer (take n (now (bytes .entry)))) r (now (out .entry)) (now (out .exit)) ⌝ }
+{
+    let mut at = figures::write_decimal(number, out);
+    at += output::put3(b'\t', b'0' + answer, b'\t', &mut out[at..]);
+    at += figures::write_shown(bytes, n, &mut out[at..]);
+    out[at] = b'\n';
+    at + 1
+}
