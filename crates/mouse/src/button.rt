@@ -42,6 +42,7 @@ impl Mouse {
         }
     }
 
+    // All held motion is sent with the new levels; action 4 makes the buttons keys.
     fn pressed_relative(self, action: u8, side: Side, down: bool) -> Pressed
         requires { ⌜ WithinLimit self ⌝ }
         ensures { λ r. ⌜ PressedAs (live-button Relative action side down self) r ⌝ }
@@ -59,7 +60,7 @@ impl Mouse {
         }
     }
 
-    // The maximum plays no part in a button.
+    // The latch is set whatever the action, which says whether a report goes out. The maximum plays no part.
     fn pressed_absolute(self, action: u8, side: Side, down: bool) -> Pressed
         ensures { λ r. ⌜ PressedAs (live-button (Absolute origin) action side down self) r ⌝ }
     {
@@ -80,6 +81,7 @@ impl Mouse {
         self.says(Short::one(output::code_sent(key_of(side), down)))
     }
 
+    // Nothing goes out but a short run of bytes.
     fn says(self, short: Short) -> Pressed
         ensures { λ r. ⌜ r ≡ only-short short self ⌝ }
     {
@@ -90,6 +92,7 @@ impl Mouse {
         }
     }
 
+    // Is the button at this level already?
     fn unchanged(self, side: Side, down: bool) -> bool
         ensures { λ r. ⌜ r ≡ cond down (level side self) (not (level side self)) ⌝ }
     {

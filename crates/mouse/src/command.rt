@@ -37,6 +37,7 @@ impl Mouse {
         }
     }
 
+    // 0x12 drops what is held.
     pub fn switched_off(self) -> Self
         ensures { λ r. ⌜ r ≡ switched-off self ⌝ }
     {
@@ -53,16 +54,13 @@ impl Mouse {
         }
     }
 
+    // A mode command: nothing held, and the coordinates 0.
     fn started_anew(self) -> Self
         ensures { λ r. ⌜ r ≡ started-anew self ⌝ }
     {
+        let still = self.switched_off();
         let place = Point { x: 0, y: 0 };
-        let held = Motions::at_rest();
-        Mouse {
-            place,
-            held,
-            ..self
-        }
+        Mouse { place, ..still }
     }
 
     fn without_latches(self) -> Self
@@ -111,6 +109,7 @@ impl Mouse {
     }
 }
 
+// Two parameter bytes, high byte first.
 fn word(high: u8, low: u8) -> u16
     ensures { λ r. ⌜ r ≡ 256 * high + low ⌝ }
 {

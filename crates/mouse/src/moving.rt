@@ -105,6 +105,7 @@ impl Mouse {
         }
     }
 
+    // Nothing is sent, and nothing changes.
     fn stays(self) -> Moved
         ensures { λ r. ⌜ MovedAs (quiet self) r ⌝ }
     {

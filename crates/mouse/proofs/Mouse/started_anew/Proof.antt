@@ -4,11 +4,11 @@ use borrow.Author.Needs.{needs}
 use Rattle.mouse.proofs.Mouse.started_anew.Statement.{statement}
 use Rattle.mouse.proofs.Mouse.started_anew.Tie as tie
 
-at-rest-requires : tie.Need-at-rest-requires
-at-rest-requires c κs = search needs
+switched-off-requires : tie.Need-switched-off-requires
+switched-off-requires c κs = search needs
 
 returns : tie.Need-returns
-returns c = cc (c .before .at-rest .ensures)
+returns c = rw (c .before .before .switched-off .ensures)
 
 pub started-anew-spec : {M : Type 1} → statement M
-started-anew-spec = tie.close (tie.spec at-rest-requires returns)
+started-anew-spec = tie.close (tie.spec switched-off-requires returns)
