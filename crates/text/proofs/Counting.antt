@@ -7,9 +7,7 @@ use native.Mathlib.Nat.{add-zero, pow-succ', one-le-pow, pow-le-pow-right}
 use native.Mathlib.Decide.{decLt}
 use native.Mathlib.Omega.{arith}
 use mathlib.Core.Path.{_≡_, refl, sym, ap, _∙_, subst}
-use mathlib.Core.Bool.{Bool, true, false, cond}
 use mathlib.Core.List.{List, [], _∷_, _++_, append-assoc, append-nil}
-use lib.Dec.{ltb}
 use lib.ListN.{length, take, drop, set, length-append, length-set, take-append-drop}
 use lib.Seq.{set-split, take-append-le, take-take, drop-at, length-take-le}
 use borrow.Author.Tests.{lt-ltb, le-ltb}
@@ -19,7 +17,7 @@ use Rattle.text.specs.Output.{figure, decimal-in, decimal}
 
 -- ---- one digit, or the digits of the tenth and one more
 
-one-figure : (k n : ℕ) → n < 10 → decimal-in (suc k) n ≡ figure n ∷ []
+pub one-figure : (k n : ℕ) → n < 10 → decimal-in (suc k) n ≡ figure n ∷ []
 unfolding decimal-in
 one-figure k n h = rw (lt-ltb n 10 h) refl
 
@@ -53,6 +51,15 @@ below-power (suc n) =
 
 pub decimal-is : (k n : ℕ) → n < 10 ^ suc k → decimal n ≡ decimal-in (suc k) n
 decimal-is k n h = agree n k n (below-power n) h
+
+-- the digits of the tenth, and one more
+pub decimal-ten : (n : ℕ) → 10 ≤ n → decimal n ≡ decimal (n / 10) ++ (figure (n % 10) ∷ [])
+decimal-ten zero h = absurd (omega arith)
+decimal-ten (suc m) h =
+    let t = suc m / 10 in
+    let p : 10 ^ suc t ≤ 10 ^ suc m = pow-le-pow-right {n = 10} (omega arith) {i = suc t} {j = suc m} (omega arith) in
+    let b = below-power t in
+    more-figures (suc m) (suc m) h ∙ ap (λ (d : List ℕ). d ++ (figure (suc m % 10) ∷ [])) (agree m t t (omega arith) b)
 
 -- ---- how many digits
 

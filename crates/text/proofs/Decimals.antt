@@ -1,7 +1,7 @@
 -- Laws of digits that are read on from the front of a text.
 -- Assumes nothing.
 use Prim.Native.Char.{code}
-use Prim.Native.Nat.{ℕ, suc, _+_, _-_, _*_, _^_, _≤_, _<_}
+use Prim.Native.Nat.{ℕ, _+_, _-_, _*_, _^_, _≤_, _<_}
 use native.Mathlib.Numerals.{add-one}
 use native.Mathlib.Decide.{ℕ-discrete}
 use native.Mathlib.Nat.{pow-le-pow-right, pow-succ', zero-add}
@@ -9,12 +9,11 @@ use native.Mathlib.Omega.{arith}
 use mathlib.Core.Path.{_≡_, refl, sym, ap, _∙_}
 use mathlib.Core.Bool.{Bool, true, false, cond, _&&_}
 use mathlib.Core.List.{List, [], _∷_}
-use mathlib.Core.Option.{Option, none, some}
-use lib.Dec.{eqb, leb}
+use mathlib.Core.Option.{none, some}
+use lib.Dec.{leb}
 use lib.ListN.{length, drop, getD}
 use lib.Seq.{drop-cons, drop-length}
 use borrow.Author.Tests.{le-leb, lt-leb, eq-eqb, ne-eqb}
-use Rattle.text.specs.declared.numbers.Digits.{Digits}
 use Rattle.text.specs.declared.numbers.Digits.the-variants.{Natural, NoNatural}
 use Rattle.text.specs.Line.{tab, digits, value, natural}
 use Rattle.text.specs.Fronts.{first, digits-read, digits-of}

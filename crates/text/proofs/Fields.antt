@@ -1,7 +1,6 @@
--- Laws of fields: the first one, those after it, and how long a text of good fields is.
+-- Laws of fields: the first one, and those after it.
 -- Assumes nothing.
-use Prim.Native.Nat.{ℕ, suc, _+_, _-_, _≤_, _<_}
-use native.Mathlib.Numerals.{add-one}
+use Prim.Native.Nat.{ℕ, suc, _-_, _≤_, _<_}
 use native.Mathlib.Decide.{decLt}
 use native.Mathlib.Omega.{arith}
 use mathlib.Core.Path.{_≡_, refl, sym, ap, _∙_}
@@ -12,9 +11,8 @@ use lib.Dec.{eqb}
 use lib.ListN.{length, take, drop, length-drop}
 use lib.Seq.{take-length}
 use Rattle.controller.specs.declared.Input.{Input}
-use Rattle.text.specs.declared.Line.{Line}
 use Rattle.text.specs.declared.Line.the-variants.{Good, Bad}
-use Rattle.text.specs.Line.{tab, lengthened, fields, with, none-more, one-more, two-more, three-more}
+use Rattle.text.specs.Line.{tab, lengthened, fields, none-more, one-more, two-more, three-more}
 use Rattle.text.specs.Fronts.{first}
 
 pub first-most : (l : List ℕ) → length (first l) ≤ length l

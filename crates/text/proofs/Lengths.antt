@@ -7,18 +7,17 @@ use native.Mathlib.Omega.{arith}
 use mathlib.Core.Path.{_≡_, refl, sym, ap, _∙_}
 use mathlib.Core.Bool.{Bool, true, false, cond, _&&_}
 use mathlib.Core.List.{List, [], _∷_}
-use mathlib.Core.Option.{Option, none, some, Option·none-ne-some, Option·map}
+use mathlib.Core.Option.{Option, none, some, Option·map, Option·none-ne-some, Option·some-injective}
 use lib.Dec.{eqb, leb}
 use lib.ListN.{length, take, length-take}
 use lib.IntN.{ℤ, pos, negℤ}
 use lib.Seq.{take-all}
 use borrow.Author.Tests.{leb-true}
-use Rattle.output.proofs.Cases.{and-true}
 use Rattle.mouse.specs.declared.Side.the-variants.{Left, Right}
 use Rattle.controller.specs.declared.Input.{Input}
 use Rattle.controller.specs.declared.Input.the-variants.{Byte, Key, Button, Move, Joystick, Sample, Tick}
 use Rattle.text.specs.declared.Line.{Line}
-use Rattle.text.specs.declared.Line.the-variants.{Good, Bad}
+use Rattle.text.specs.declared.Line.the-variants.{Bad}
 use Rattle.text.specs.Line.{tab, lengthened, fields, hex, digits, value, natural, number, level, with, none-more, one-more, two-more, three-more, kind, meaning, line-of, longest}
 
 -- ---- fields and the tabs between them
@@ -69,27 +68,40 @@ level-sized = record { bounds = at }
     at (b ∷ []) x e = (omega arith, omega arith)
     at (b ∷ c ∷ f) x e = never x e
 
-natural-sized : Sized natural 1 4
-unfolding natural
-natural-sized = record { bounds = λ f x. at f x (leb 1 (length f)) (leb (length f) 4) (digits f) (λ e. e) (λ e. e) }
-  where
-    at : (f : List ℕ) (x : ℕ) (s t d : Bool) → (s ≡ true → leb 1 (length f) ≡ true) → (t ≡ true → leb (length f) 4 ≡ true) → cond (s && t && d) (some (value 0 f)) none ≡ some x → (1 ≤ length f) × (length f ≤ 4)
-    at f x false t d p q e = never x e
-    at f x true false d p q e = never x e
-    at f x true true d p q e = (leb-true 1 (length f) (p refl), leb-true (length f) 4 (q refl))
+-- digits that are read
+pub record Read (f : List ℕ) (v : ℕ) : Type 0 where
+  pub some-bytes : 1 ≤ length f
+  pub few : length f ≤ 4
+  pub all : digits f ≡ true
+  pub worth : value 0 f ≡ v
 
--- where what was made of something read is there, that was there
-mapped : {A B : Type 0} {P : Type 0} (g : A → B) (o : Option A) (y : B) → Option·map g o ≡ some y → ((x : A) → o ≡ some x → P) → P
+pub natural-read : (f : List ℕ) (v : ℕ) → natural f ≡ some v → Read f v
+unfolding natural
+natural-read f v = at (leb 1 (length f)) (leb (length f) 4) (digits f) (λ e. e) (λ e. e) (λ e. e)
+  where
+    at : (s t d : Bool) → (s ≡ true → leb 1 (length f) ≡ true) → (t ≡ true → leb (length f) 4 ≡ true) → (d ≡ true → digits f ≡ true) → cond (s && t && d) (some (value 0 f)) none ≡ some v → Read f v
+    at false t d p q r e = never v e
+    at true false d p q r e = never v e
+    at true true false p q r e = never v e
+    at true true true p q r e = record {
+      some-bytes = leb-true 1 (length f) (p refl);
+      few = leb-true (length f) 4 (q refl);
+      all = r refl;
+      worth = Option·some-injective (value 0 f) v e;
+    }
+
+-- what was made of something read: that was read, and it is made of it
+pub mapped : {A B : Type 0} {P : Type 0} (g : A → B) (o : Option A) (y : B) → Option·map g o ≡ some y → ((x : A) → o ≡ some x → g x ≡ y → P) → P
 mapped g none y e p = never y e
-mapped g (some x) y e p = p x refl
+mapped g (some x) y e p = p x refl (Option·some-injective (g x) y e)
 
 number-sized : Sized number 1 5
 unfolding number
 number-sized = record { bounds = at }
   where
     tested : (b : ℕ) (f : List ℕ) (z : ℤ) (t : Bool) → cond t (Option·map (λ n. negℤ (pos n)) (natural f)) (Option·map pos (natural (b ∷ f))) ≡ some z → (1 ≤ suc (length f)) × (suc (length f) ≤ 5)
-    tested b f z true e = mapped (λ n. negℤ (pos n)) (natural f) z e (λ x e. let h = natural-sized .bounds f x e in (omega arith, omega arith))
-    tested b f z false e = mapped pos (natural (b ∷ f)) z e (λ x e. let h = natural-sized .bounds (b ∷ f) x e in (omega arith, omega arith))
+    tested b f z true e = mapped (λ n. negℤ (pos n)) (natural f) z e (λ v r e. let h = natural-read f v r in (omega arith, omega (arith, h .few)))
+    tested b f z false e = mapped pos (natural (b ∷ f)) z e (λ v r e. let h = natural-read (b ∷ f) v r in (omega arith, omega (arith, h .few)))
 
     at : (f : List ℕ) (z : ℤ) → number f ≡ some z → (1 ≤ length f) × (length f ≤ 5)
     at [] z e = never z e

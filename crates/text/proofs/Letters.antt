@@ -1,7 +1,7 @@
 -- Laws of whole lines, by their first byte and the tab after it.
 -- Assumes nothing.
 use Prim.Native.Char.{code}
-use Prim.Native.Nat.{ℕ, _-_, _≤_, _<_}
+use Prim.Native.Nat.{ℕ, _-_, _≤_}
 use native.Mathlib.Decide.{ℕ-discrete}
 use native.Mathlib.Omega.{arith}
 use mathlib.Core.Path.{_≡_, refl, sym, ap, _∙_}
@@ -9,12 +9,11 @@ use mathlib.Core.Bool.{Bool, true, false, cond}
 use mathlib.Core.List.{List, [], _∷_}
 use lib.Dec.{eqb}
 use lib.ListN.{length, take, drop, getD}
-use borrow.Author.Tests.{eq-eqb, ne-eqb}
+use borrow.Author.Tests.{ne-eqb}
 use Rattle.controller.specs.declared.Input.the-variants.{Tick}
 use Rattle.text.specs.declared.Line.{Line}
 use Rattle.text.specs.declared.Line.the-variants.{Good, Bad}
-use Rattle.text.specs.Line.{tab, lengthened, fields, none-more, kind, meaning, line-of}
-use Rattle.text.specs.Fronts.{first}
+use Rattle.text.specs.Line.{tab, lengthened, fields, kind, meaning, line-of}
 use Rattle.text.proofs.Fields.{rest-of, none-after, whatever}
 use Rattle.text.proofs.Lengths.{either}
 

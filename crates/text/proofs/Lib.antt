@@ -6,5 +6,6 @@ pub mod Fronts
 pub mod Fixed
 pub mod Letters
 pub mod Counting
+pub mod Blocks
 pub mod Shown
 pub mod Examples

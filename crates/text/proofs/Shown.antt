@@ -6,13 +6,13 @@ use native.Mathlib.Numerals.{add-one}
 use native.Mathlib.Decide.{decLt}
 use native.Mathlib.Omega.{arith}
 use mathlib.Core.Path.{_≡_, refl, sym, ap, _∙_}
-use mathlib.Core.List.{List, [], _∷_, _++_, append-assoc}
+use mathlib.Core.List.{List, [], _∷_, _++_}
 use mathlib.Core.Option.{some}
-use lib.ListN.{length, take, drop, getD, set, length-append, length-set, length-take}
+use lib.ListN.{length, take, getD, set, length-append, length-set}
 use lib.Seq.{take-suc, length-take-le, set-split}
 use borrow.Author.Tests.{lt-ltb, le-ltb, le-leb, lt-leb}
 use Rattle.output.specs.Writing.{over, Wrote}
-use Rattle.output.proofs.Writing.{over-more, length-over}
+use Rattle.output.proofs.Writing.{over-more}
 use Rattle.text.specs.Line.{tab, hex-digit, hex}
 use Rattle.text.specs.Output.{text, figure, decimal, hex-figure, hex-bytes, shown, output-line, line-room}
 use Rattle.text.proofs.Counting.{decimal-most}

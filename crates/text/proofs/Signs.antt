@@ -8,10 +8,10 @@ use native.Mathlib.Omega.{arith}
 use mathlib.Core.Path.{_≡_, refl, sym, ap, _∙_, subst}
 use mathlib.Core.Bool.{Bool, true, false, cond, _&&_}
 use mathlib.Core.List.{List, [], _∷_}
-use mathlib.Core.Option.{Option, none, some, Option·map, Option·none-ne-some, Option·some-injective}
+use mathlib.Core.Option.{Option, none, some, Option·map, Option·none-ne-some}
 use lib.Dec.{eqb, leb}
 use lib.ListN.{length, take, drop, getD}
-use lib.IntN.{ℤ, pos, negsuc, negℤ, _-ℤ_, +ℤ-idl}
+use lib.IntN.{ℤ, pos, negℤ, _-ℤ_, +ℤ-idl}
 use mir.Syntax.{w16}
 use mir.Val.{SFits, toZ, ofZ}
 use mir.ValLaws.{toZ-ofZ, toZ-pos}
@@ -24,6 +24,7 @@ use Rattle.text.specs.declared.numbers.Front.the-variants.{Number, NoNum
 use Rattle.text.specs.Line.{tab, digits, value, natural, number}
 use Rattle.text.specs.Fronts.{first, digits-read, digits-of, number-read, front-of}
 use Rattle.text.proofs.Fields.{first-most, rest-of}
+use Rattle.text.proofs.Lengths.{natural-read, mapped}
 
 -- ---- four digits make at most 9999
 
@@ -38,17 +39,11 @@ value-small (b ∷ l) v k h e =
     subst (λ (n : ℕ). value (v * 10 + (b - code "0")) l < 10 ^ n) (omega arith) (value-small l (v * 10 + (b - code "0")) (suc k) w (p .1))
 
 natural-small : (f : List ℕ) (v : ℕ) → natural f ≡ some v → v ≤ 9999
-unfolding natural
-natural-small f v = at (leb 1 (length f)) (leb (length f) 4) (digits f) (λ e. e) (λ e. e)
-  where
-    at : (s t d : Bool) → (t ≡ true → leb (length f) 4 ≡ true) → (d ≡ true → digits f ≡ true) → cond (s && t && d) (some (value 0 f)) none ≡ some v → v ≤ 9999
-    at false t d p q e = absurd (Option·none-ne-some v e)
-    at true false d p q e = absurd (Option·none-ne-some v e)
-    at true true false p q e = absurd (Option·none-ne-some v e)
-    at true true true p q e =
-        let w = value-small f 0 0 (omega arith) (q refl) in
-        let m : 10 ^ (0 + length f) ≤ 10 ^ 4 = pow-le-pow-right {n = 10} (omega arith) {i = 0 + length f} {j = 4} (omega (arith, leb-true (length f) 4 (p refl))) in
-        omega (arith, Option·some-injective (value 0 f) v e)
+natural-small f v e =
+    let r = natural-read f v e in
+    let w = value-small f 0 0 (omega arith) (r .all) in
+    let m : 10 ^ (0 + length f) ≤ 10 ^ 4 = pow-le-pow-right {n = 10} (omega arith) {i = 0 + length f} {j = 4} (omega (arith, r .few)) in
+    omega (arith, r .worth)
 
 -- digits that were read make at most 9999, and stand in the text
 pub digits-small : (s : List ℕ) (v n : ℕ) → Natural v n ≡ digits-of s → (v ≤ 9999) × (n ≤ length s)
@@ -58,11 +53,6 @@ digits-small s v n = at (natural (first s)) (λ v e. natural-small (first s) v e
     at : (o : Option ℕ) → ((v : ℕ) → o ≡ some v → v ≤ 9999) → Natural v n ≡ digits-read o (length (first s)) → (v ≤ 9999) × (n ≤ length s)
     at none h e = let z : _≡_ {A = ℕ} 0 1 = cc in absurd (omega arith)
     at (some x) h e = let p : v ≡ x = cc in let q = h x refl in let m : n ≡ length (first s) = cc in (omega arith, omega (arith, first-most s))
-
--- what was made of something read: that was read, and it is made of it
-mapped-is : {A B : Type 0} {P : Type 0} (g : A → B) (o : Option A) (y : B) → Option·map g o ≡ some y → ((x : A) → o ≡ some x → g x ≡ y → P) → P
-mapped-is g none y e p = absurd (Option·none-ne-some y e)
-mapped-is g (some x) y e p = p x refl (Option·some-injective (g x) y e)
 
 -- ---- the minus
 
@@ -128,8 +118,8 @@ unfolding number
 number-fits = at
   where
     tested : (b : ℕ) (f : List ℕ) (z : ℤ) (t : Bool) → cond t (Option·map (λ n. negℤ (pos n)) (natural f)) (Option·map pos (natural (b ∷ f))) ≡ some z → SFits w16 z
-    tested b f z true e = mapped-is (λ n. negℤ (pos n)) (natural f) z e (λ v e g. rw (← g) (below-fits v (natural-small f v e)))
-    tested b f z false e = mapped-is pos (natural (b ∷ f)) z e (λ v e g. rw (← g) (plain-fits v (natural-small (b ∷ f) v e)))
+    tested b f z true e = mapped (λ n. negℤ (pos n)) (natural f) z e (λ v e g. rw (← g) (below-fits v (natural-small f v e)))
+    tested b f z false e = mapped pos (natural (b ∷ f)) z e (λ v e g. rw (← g) (plain-fits v (natural-small (b ∷ f) v e)))
 
     at : (f : List ℕ) (z : ℤ) → number f ≡ some z → SFits w16 z
     at [] z e = absurd (Option·none-ne-some z e)

@@ -20,7 +20,7 @@ header = text "line\tanswer\tbytes\n"
 abbrev pub figure : ℕ → ℕ
 figure d = code "0" + d
 
--- a number in decimal, without zeros in front: its digits are fewer than k, where k is above the number
+-- a number in decimal, without zeros in front; k is at least the count of its digits, as the next number is
 unfoldable pub decimal-in : ℕ → ℕ → List ℕ
 decimal-in zero n = []
 decimal-in (suc k) n =
@@ -29,6 +29,10 @@ decimal-in (suc k) n =
 
 abbrev pub decimal : ℕ → List ℕ
 decimal n = decimal-in (suc n) n
+
+-- four digits of a number below 10,000, zeros in front too: what ends a longer number
+abbrev pub four-figures : ℕ → List ℕ
+four-figures n = figure (n / 1000) ∷ figure (n / 100 % 10) ∷ figure (n / 10 % 10) ∷ figure (n % 10) ∷ []
 
 -- a hexadecimal digit, upper case
 unfoldable pub hex-figure : ℕ → ℕ

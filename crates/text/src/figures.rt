@@ -1,34 +1,59 @@
 // Numbers and bytes as text: decimal for a line's number, hexadecimal for what was written.
 ghost use mathlib.Core.Path.{_≡_};
-ghost use Prim.Native.Nat.{_≤_, _*_};
+ghost use Prim.Native.Nat.{_≤_, _<_, _*_};
 ghost use lib.ListN.{length, take};
 ghost use Rattle.output.specs.Writing.{Wrote};
-ghost use Rattle.text.specs.Output.{decimal, hex-figure, hex-bytes, shown};
+ghost use Rattle.text.specs.Output.{decimal, four-figures, hex-figure, hex-bytes, shown};
 
-// How many digits a number has. Most lines have a number below ten million: those are told apart by a few comparisons.
+// Four digits, zeros in front too.
+fn write_four(n: u32, out: &mut [u8]) -> usize
+    requires { ⌜ (n < 10000) × (4 ≤ length (now out)) ⌝ }
+    ensures { λ r. ⌜ Wrote (four-figures n) r (now (out .entry)) (now (out .exit)) ⌝ }
+{
+    let thousands = n / 1_000;
+    let hundreds = n / 100;
+    let tens = n / 10;
+    out[0] = b'0' + thousands as u8;
+    out[1] = b'0' + (hundreds - thousands * 10) as u8;
+    out[2] = b'0' + (tens - hundreds * 10) as u8;
+    out[3] = b'0' + (n - tens * 10) as u8;
+    4
+}
+
+// One to four digits.
+fn write_short(n: u32, out: &mut [u8]) -> usize
+    requires { ⌜ (n < 10000) × (length (decimal n) ≤ length (now out)) ⌝ }
+    ensures { λ r. ⌜ Wrote (decimal n) r (now (out .entry)) (now (out .exit)) ⌝ }
+{
+    if n < 10 {
+        out[0] = b'0' + n as u8;
+        return 1;
+    }
+    let tens = n / 10;
+    if n < 100 {
+        out[0] = b'0' + tens as u8;
+        out[1] = b'0' + (n - tens * 10) as u8;
+        return 2;
+    }
+    if n < 1_000 {
+        let hundreds = n / 100;
+        return output::put3(
+            b'0' + hundreds as u8,
+            b'0' + (tens - hundreds * 10) as u8,
+            b'0' + (n - tens * 10) as u8,
+            out,
+        );
+    }
+    write_four(n, out)
+}
+
+// How many digits a long number has: no number of 64 bits has more than 20.
 fn count_digits(n: u64) -> usize
+    requires { ⌜ 100000000 ≤ n ⌝ }
     ensures { λ r. ⌜ r ≡ length (decimal n) ⌝ }
 {
-    if n < 10_000 {
-        if n < 10 {
-            return 1;
-        }
-        if n < 100 {
-            return 2;
-        }
-        if n < 1_000 {
-            return 3;
-        }
-        return 4;
-    }
-    if n < 100_000 {
-        return 5;
-    }
-    if n < 1_000_000 {
-        return 6;
-    }
-    let mut count = 7;
-    let mut limit = 10_000_000;
+    let mut count = 9;
+    let mut limit = 1_000_000_000;
     while limit <= n {
         if count == 19 {
             return 20;
@@ -39,9 +64,9 @@ fn count_digits(n: u64) -> usize
     count
 }
 
-// The digits are written from the last to the first.
-pub(crate) fn write_decimal(n: u64, out: &mut [u8]) -> usize
-    requires { ⌜ length (decimal n) ≤ length (now out) ⌝ }
+// The digits of a long number, from the last to the first.
+fn write_long(n: u64, out: &mut [u8]) -> usize
+    requires { ⌜ (100000000 ≤ n) × (length (decimal n) ≤ length (now out)) ⌝ }
     ensures { λ r. ⌜ Wrote (decimal n) r (now (out .entry)) (now (out .exit)) ⌝ }
 {
     let count = count_digits(n);
@@ -56,6 +81,23 @@ pub(crate) fn write_decimal(n: u64, out: &mut [u8]) -> usize
     count
 }
 
+// Few sessions have a hundred million lines: shorter numbers are written four digits at once.
+pub(crate) fn write_decimal(n: u64, out: &mut [u8]) -> usize
+    requires { ⌜ length (decimal n) ≤ length (now out) ⌝ }
+    ensures { λ r. ⌜ Wrote (decimal n) r (now (out .entry)) (now (out .exit)) ⌝ }
+{
+    if n < 10_000 {
+        return write_short(n as u32, out);
+    }
+    if n < 100_000_000 {
+        let short = n as u32;
+        let high = short / 10_000;
+        let k = write_short(high, out);
+        return k + write_four(short - high * 10_000, &mut out[k..]);
+    }
+    write_long(n, out)
+}
+
 fn hex_figure(d: u8) -> u8
     requires { ⌜ d ≤ 15 ⌝ }
     ensures { λ r. ⌜ r ≡ hex-figure d ⌝ }
@@ -66,6 +108,7 @@ fn hex_figure(d: u8) -> u8
     b'A' + (d - 10)
 }
 
+// Two digits for each byte.
 fn write_hex(bytes: &[u8], n: usize, out: &mut [u8]) -> usize
     requires { ⌜ (n ≤ length (now bytes)) × (2 * n ≤ length (now out)) ⌝ }
     ensures { λ r. ⌜ Wrote (hex-bytes (take n (now (bytes .entry)))) r (now (out .entry)) (now (out .exit)) ⌝ }
@@ -82,6 +125,7 @@ fn write_hex(bytes: &[u8], n: usize, out: &mut [u8]) -> usize
     at
 }
 
+// The bytes of an output line, or that there are none.
 pub(crate) fn write_shown(bytes: &[u8], n: usize, out: &mut [u8]) -> usize
     requires { ⌜ (n ≤ length (now bytes)) × (2 * n ≤ length (now out)) × (1 ≤ length (now out)) ⌝ }
     ensures { λ r. ⌜ Wrote (shown (take n (now (bytes .entry)))) r (now (out .entry)) (now (out .exit)) ⌝ }

@@ -85,6 +85,7 @@ pub(crate) fn motion_line(s: &[u8]) -> Line
     }
 }
 
+// What is left of a line of motion past dx.
 fn dy_line(dx: i16, s: &[u8]) -> Line
     ensures { λ r. ⌜ r ≡ one-more number (Move dx) (fields (now (s .entry))) ⌝ }
 {
@@ -114,6 +115,7 @@ pub(crate) fn stick_line(s: &[u8]) -> Line
     }
 }
 
+// What is left of a stick's line past the stick.
 fn position_line(stick: i16, s: &[u8]) -> Line
     ensures { λ r. ⌜ r ≡ two-more number number (Joystick stick) (fields (now (s .entry))) ⌝ }
 {
@@ -129,6 +131,7 @@ fn position_line(stick: i16, s: &[u8]) -> Line
     }
 }
 
+// What is left of it past the position.
 fn trigger_line(stick: i16, position: i16, s: &[u8]) -> Line
     ensures { λ r. ⌜ r ≡ one-more number (Joystick stick position) (fields (now (s .entry))) ⌝ }
 {

@@ -71,6 +71,7 @@ fn first_digits(s: &[u8]) -> Digits
     Digits::Natural { value, len: i }
 }
 
+// An optional minus, and the digits.
 pub(crate) fn first_number(s: &[u8]) -> Front
     ensures { λ r. ⌜ r ≡ front-of (now (s .entry)) ⌝ }
 {

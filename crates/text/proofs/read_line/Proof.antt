@@ -1,12 +1,12 @@
 -- `text::read_line` meets its contract: by the length, the first byte and the tab after it, and then by the kind.
 -- Assumes nothing.
+use Prim.Native.Char.{code}
+use native.Mathlib.Omega.{arith}
+use mathlib.Core.Path.{refl, sym}
+use borrow.Author.Needs.{needs}
+use Rattle.text.specs.Line.{kind}
 use Rattle.text.proofs.Letters.{no-bytes, tick, no-tick, no-tab, by-kind, other-kind}
 use Rattle.text.proofs.Lengths.{longer}
-use Rattle.text.specs.Line.{kind}
-use mathlib.Core.Path.{refl, sym}
-use native.Mathlib.Omega.{arith}
-use Prim.Native.Char.{code}
-use borrow.Author.Needs.{needs}
 use Rattle.text.proofs.read_line.Statement.{statement}
 use Rattle.text.proofs.read_line.Tie as tie
 

@@ -1,8 +1,8 @@
 -- `text::figures::hex_figure` meets its contract.
 -- Assumes nothing.
-use Rattle.text.specs.Output.{hex-figure}
 use borrow.Author.Tests.{lt-ltb, le-ltb}
 use borrow.Author.Needs.{needs}
+use Rattle.text.specs.Output.{hex-figure}
 use Rattle.text.proofs.figures.hex_figure.Statement.{statement}
 use Rattle.text.proofs.figures.hex_figure.Tie as tie
 

@@ -1,72 +1,111 @@
--- `text::figures::write_decimal` meets its contract. The loop's invariant: the digits of `left` come before place `at`, and those behind them are written.
+-- `text::figures::write_decimal` meets its contract, by the size of the number.
 -- Assumes nothing.
-use Rattle.text.proofs.Counting.{Falling, falling-start, falling-on, falling-end}
-use lib.ListN.{length-set}
 use native.Mathlib.Omega.{arith}
+use borrow.Author.Needs.{needs}
+use Rattle.output.proofs.Writing.{both}
+use Rattle.text.proofs.Blocks.{block-length, block-wrote}
 use Rattle.text.proofs.figures.write_decimal.Statement.{statement}
 use Rattle.text.proofs.figures.write_decimal.Tie as tie
 
-abbrev Inv-loop : tie.InvT-loop
-Inv-loop n out₀ count at₀ left₀ out at left = Falling n at left out₀ out
+cast-write-short : tie.Need-cast-write-short
+cast-write-short c = search needs
 
-abbrev μ-loop : tie.MeasureT-loop
-μ-loop n out₀ count at₀ left₀ out at left = at
+write-short-requires : tie.Need-write-short-requires
+write-short-requires c κs = search needs
 
-count-digits-requires : tie.Need-count-digits-requires Inv-loop μ-loop
-count-digits-requires c κs = tt
+same-length : tie.Need-same-length
+same-length c = search needs
 
-loop-holds : tie.Need-loop-holds Inv-loop μ-loop
-loop-holds c = falling-start _ _ _ (c .count-digits .ensures) (c .before .before .pre)
+returns : tie.Need-returns
+returns c = search needs
 
-sub-at : tie.Need-sub-at Inv-loop μ-loop
-sub-at c = let l = c .before .loop in omega (arith, l .inv .some)
+cast-short : tie.Need-cast-short
+cast-short c = search needs
 
-cast-out : tie.Need-cast-out Inv-loop μ-loop
-cast-out c = omega arith
+write-short-requires-2 : tie.Need-write-short-requires-2
+write-short-requires-2 c κs =
+    let test = c .before in
+    let start = test .before .before .before in
+    (omega arith, omega (arith, block-length (start .args .n) (test .before .if1 .left), start .pre))
 
-add-out : tie.Need-add-out Inv-loop μ-loop
-add-out c = omega arith
+mul-write-four : tie.Need-mul-write-four
+mul-write-four c = search needs
 
-slice-write-out : tie.Need-slice-write-out Inv-loop μ-loop
-slice-write-out c = let l = c .before .loop in omega (arith, l .inv .some, l .inv .room, l .inv .same)
+sub-write-four : tie.Need-sub-write-four
+sub-write-four c = search needs
 
-loop-less : tie.Need-loop-less Inv-loop μ-loop
-loop-less c = let l = c .before .loop in omega (arith, l .inv .some)
+sub-write-four-2 : tie.Need-sub-write-four-2
+sub-write-four-2 c =
+    let call = c .before .before in
+    let test = call .before .before in
+    let start = test .before .before .before in
+    let b = block-length (start .args .n) (test .before .if1 .left) in
+    omega (arith, b, start .pre, call .write-short2 .ensures .count)
 
-loop-again : tie.Need-loop-again Inv-loop μ-loop
-loop-again c = let l = c .before .loop in falling-on _ _ _ _ _ (l .inv) (c .loop-test .taken)
+part-write-four-start : tie.Need-part-write-four-start
+part-write-four-start c =
+    let call = c .before .before in
+    let test = call .before .before in
+    let start = test .before .before .before in
+    let b = block-length (start .args .n) (test .before .if1 .left) in
+    omega (arith, b, start .pre, call .write-short2 .ensures .count)
 
-cast-out-2 : tie.Need-cast-out-2 Inv-loop μ-loop
-cast-out-2 c = omega arith
+part-write-four-end : tie.Need-part-write-four-end
+part-write-four-end c = search needs
 
-add-out-2 : tie.Need-add-out-2 Inv-loop μ-loop
-add-out-2 c = omega arith
+write-four-requires : tie.Need-write-four-requires
+write-four-requires c κs =
+    let call = c .before .before .before in
+    let test = call .before .before in
+    let start = test .before .before .before in
+    let b = block-length (start .args .n) (test .before .if1 .left) in
+    (omega arith, omega (arith, b, start .pre, call .write-short2 .ensures .count))
 
-slice-write-out-2 : tie.Need-slice-write-out-2 Inv-loop μ-loop
-slice-write-out-2 c = let l = c .before .loop in omega (arith, l .inv .some, l .inv .room, l .inv .same)
+add-result : tie.Need-add-result
+add-result c =
+    let call = c .before .before .before .before .before .before in
+    let test = call .before .before in
+    let start = test .before .before .before in
+    let b = block-length (start .args .n) (test .before .if1 .left) in
+    omega (arith, b, start .pre, call .write-short2 .ensures .count, c .before .before .write-four .ensures .count)
 
-same-length : tie.Need-same-length Inv-loop μ-loop
-same-length c = let l = c .before .loop in simp length-set (l .inv .same)
+same-length-2 : tie.Need-same-length-2
+same-length-2 c = search needs
 
-returns : tie.Need-returns Inv-loop μ-loop
-returns c = let l = c .before .loop in falling-end _ _ _ _ _ _ (l .inv) (c .loop-test .left) (c .before .before .count-digits .ensures)
+returns-2 : tie.Need-returns-2
+returns-2 c =
+    let call = c .before .before .before .before .before .before in
+    let test = call .before .before in
+    block-wrote _ _ _ _ (test .before .if1 .left) (both (call .write-short2 .ensures) (c .before .before .write-four .ensures))
+
+write-long-requires : tie.Need-write-long-requires
+write-long-requires c κs = search needs
+
+same-length-3 : tie.Need-same-length-3
+same-length-3 c = search needs
+
+returns-3 : tie.Need-returns-3
+returns-3 c = search needs
 
 pub write-decimal-spec : {M : Type 1} → statement M
 write-decimal-spec =
     tie.close
     (tie.spec
-    Inv-loop
-    μ-loop
-    count-digits-requires
-    loop-holds
-    sub-at
-    cast-out
-    add-out
-    slice-write-out
-    loop-less
-    loop-again
-    cast-out-2
-    add-out-2
-    slice-write-out-2
+    cast-write-short
+    write-short-requires
     same-length
-    returns)
+    returns
+    cast-short
+    write-short-requires-2
+    mul-write-four
+    sub-write-four
+    sub-write-four-2
+    part-write-four-start
+    part-write-four-end
+    write-four-requires
+    add-result
+    same-length-2
+    returns-2
+    write-long-requires
+    same-length-3
+    returns-3)

@@ -1,9 +1,9 @@
 -- `text::figures::write_hex` meets its contract. The loop's invariant: the first `i` bytes are written.
 -- Assumes nothing.
-use Rattle.text.proofs.Shown.{Listing, listing-start, listing-on, listing-end}
-use lib.ListN.{length-set}
-use native.Mathlib.Omega.{arith}
 use Prim.Native.Nat.{_≤_, _-_}
+use native.Mathlib.Omega.{arith}
+use lib.ListN.{length-set}
+use Rattle.text.proofs.Shown.{Listing, listing-start, listing-on, listing-end}
 use Rattle.text.proofs.figures.write_hex.Statement.{statement}
 use Rattle.text.proofs.figures.write_hex.Tie as tie
 

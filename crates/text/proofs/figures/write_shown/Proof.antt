@@ -1,7 +1,7 @@
 -- `text::figures::write_shown` meets its contract: a minus for no bytes, and two digits for each otherwise.
 -- Assumes nothing.
-use Rattle.text.proofs.Shown.{shown-none, shown-some}
 use borrow.Author.Needs.{needs}
+use Rattle.text.proofs.Shown.{shown-none, shown-some}
 use Rattle.text.proofs.figures.write_shown.Statement.{statement}
 use Rattle.text.proofs.figures.write_shown.Tie as tie
 

@@ -1,10 +1,10 @@
 -- `text::kinds::button_line` meets its contract: one byte, for down or up.
 -- Assumes nothing.
-use Rattle.text.proofs.Fixed.{level-down, level-up, level-neither}
-use Rattle.text.proofs.Lengths.{level-length}
-use Rattle.controller.specs.declared.Input.the-variants.{Button}
 use mathlib.Core.Path.{sym}
 use borrow.Author.Needs.{needs}
+use Rattle.controller.specs.declared.Input.the-variants.{Button}
+use Rattle.text.proofs.Fixed.{level-down, level-up, level-neither}
+use Rattle.text.proofs.Lengths.{level-length}
 use Rattle.text.proofs.kinds.button_line.Statement.{statement}
 use Rattle.text.proofs.kinds.button_line.Tie as tie
 

@@ -1,10 +1,10 @@
 -- `text::kinds::byte_line` meets its contract: two hexadecimal digits.
 -- Assumes nothing.
-use Rattle.text.proofs.Fixed.{byte-high, byte-low, byte-good}
-use Rattle.text.proofs.Lengths.{hex-length}
-use Rattle.controller.specs.declared.Input.the-variants.{Byte}
 use mathlib.Core.Path.{sym}
 use borrow.Author.Needs.{needs}
+use Rattle.controller.specs.declared.Input.the-variants.{Byte}
+use Rattle.text.proofs.Fixed.{byte-high, byte-low, byte-good}
+use Rattle.text.proofs.Lengths.{hex-length}
 use Rattle.text.proofs.kinds.byte_line.Statement.{statement}
 use Rattle.text.proofs.kinds.byte_line.Tie as tie
 

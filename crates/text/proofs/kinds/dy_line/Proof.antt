@@ -1,10 +1,10 @@
 -- `text::kinds::dy_line` meets its contract: a number that must be the last field.
 -- Assumes nothing.
-use Rattle.text.proofs.Fronts.{back, one-long, one-good, one-none}
-use Rattle.controller.specs.declared.Input.the-variants.{Move}
 use mir.ValLaws.{toZ-ofZ}
 use mir.Syntax.{w16}
 use borrow.Author.Needs.{needs}
+use Rattle.controller.specs.declared.Input.the-variants.{Move}
+use Rattle.text.proofs.Fronts.{back, one-long, one-good, one-none}
 use Rattle.text.proofs.kinds.dy_line.Statement.{statement}
 use Rattle.text.proofs.kinds.dy_line.Tie as tie
 

@@ -1,10 +1,10 @@
 -- `text::kinds::key_line` meets its contract: two hexadecimal digits, a tab, and one byte for down or up.
 -- Assumes nothing.
-use Rattle.text.proofs.Fixed.{key-parted, key-high, key-low, key-down, key-up, key-neither}
-use Rattle.text.proofs.Lengths.{hex-level-length}
-use Rattle.controller.specs.declared.Input.the-variants.{Key}
 use mathlib.Core.Path.{sym}
 use borrow.Author.Needs.{needs}
+use Rattle.controller.specs.declared.Input.the-variants.{Key}
+use Rattle.text.proofs.Fixed.{key-parted, key-high, key-low, key-down, key-up, key-neither}
+use Rattle.text.proofs.Lengths.{hex-level-length}
 use Rattle.text.proofs.kinds.key_line.Statement.{statement}
 use Rattle.text.proofs.kinds.key_line.Tie as tie
 

@@ -1,9 +1,9 @@
 -- `text::kinds::motion_line` meets its contract: a number, and then a line of one field less.
 -- Assumes nothing.
-use Rattle.text.proofs.Fronts.{within, back, two-short, two-on, two-none}
-use Rattle.controller.specs.declared.Input.the-variants.{Move}
 use native.Mathlib.Omega.{arith}
 use borrow.Author.Needs.{needs}
+use Rattle.controller.specs.declared.Input.the-variants.{Move}
+use Rattle.text.proofs.Fronts.{within, back, two-short, two-on, two-none}
 use Rattle.text.proofs.kinds.motion_line.Statement.{statement}
 use Rattle.text.proofs.kinds.motion_line.Tie as tie
 
@@ -16,7 +16,6 @@ enum-known-value c = search needs
 returns : tie.Need-returns
 returns c =
     let call = c .before .before .before .before in
-    let start = call .before .before in
     two-short _ _ (call .first-number .ensures) _ _ (c .before .before .value .given .1) (omega arith) Move
 
 add-next : tie.Need-add-next
@@ -47,7 +46,6 @@ returns-2 : tie.Need-returns-2
 returns-2 c =
     let test = c .before .before in
     let call = test .before .before .before .before in
-    let start = call .before .before in
     let told = call .first-number .ensures in
     let is = test .before .before .value .given .1 in
     two-on _ _ told _ _ is (omega (arith, within _ _ told _ _ is)) Move _ _ (λ i. Move (back _ _ told _ _ is i)) (c .dy-line .ensures)
@@ -55,7 +53,6 @@ returns-2 c =
 returns-3 : tie.Need-returns-3
 returns-3 c =
     let call = c .before .before in
-    let start = call .before .before in
     two-none _ _ (call .first-number .ensures) (c .enum-told .given .1) Move
 
 pub motion-line-spec : {M : Type 1} → statement M

@@ -1,11 +1,11 @@
 -- `text::kinds::position_line` meets its contract: a number, and then a line of one field less.
 -- Assumes nothing.
-use Rattle.text.proofs.Fronts.{within, back, two-short, two-on, two-none}
-use Rattle.controller.specs.declared.Input.the-variants.{Joystick}
 use native.Mathlib.Omega.{arith}
 use mir.ValLaws.{toZ-ofZ}
 use mir.Syntax.{w16}
 use borrow.Author.Needs.{needs}
+use Rattle.controller.specs.declared.Input.the-variants.{Joystick}
+use Rattle.text.proofs.Fronts.{within, back, two-short, two-on, two-none}
 use Rattle.text.proofs.kinds.position_line.Statement.{statement}
 use Rattle.text.proofs.kinds.position_line.Tie as tie
 

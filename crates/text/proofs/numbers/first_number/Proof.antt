@@ -1,12 +1,12 @@
 -- `text::numbers::first_number` meets its contract: the digits after a minus, or from the front on.
 -- Assumes nothing.
-use Prim.Native.Nat.{_-_, _≤_}
+use Prim.Native.Nat.{_-_}
 use native.Mathlib.Omega.{arith}
+use mathlib.Core.Path.{sym, _∙_}
 use lib.ListN.{length, drop, length-take}
 use denote.Ref.{now}
-use mathlib.Core.Path.{_≡_, sym, _∙_}
-use Rattle.text.proofs.Signs.{digits-small, empty-front, plain-fits, minus-fits, minus-number, minus-none, plain-number, plain-none}
 use borrow.Author.Needs.{needs}
+use Rattle.text.proofs.Signs.{digits-small, empty-front, plain-fits, minus-fits, minus-number, minus-none, plain-number, plain-none}
 use Rattle.text.proofs.numbers.first_number.Statement.{statement}
 use Rattle.text.proofs.numbers.first_number.Tie as tie
 

@@ -1,7 +1,6 @@
 -- `text::numbers::hex_digit` meets its contract: the byte's value is found by four comparisons.
 -- Assumes nothing.
 use native.Mathlib.Omega.{arith}
-use mathlib.Core.Bool.{cond}
 use borrow.Author.Needs.{needs}
 use borrow.Author.Tests.{le-leb, lt-leb}
 use Rattle.text.specs.Line.{hex-digit}
