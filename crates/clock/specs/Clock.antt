@@ -52,19 +52,21 @@ next-day c =
     (record { year = c .year; month = c .month; day = c .day + 1; hour = c .hour; minute = c .minute; second = c .second; hundredth = c .hundredth })
     (next-month c)
 
--- the next whole hour, minute and second, each carried into the next larger field
+-- an hour more, so that the clock "shows a date and time that exist": after 23 comes 0, on the next day
 unfoldable pub next-hour : Clock → Clock
 next-hour c =
     cond (ltb (c .hour) 23)
     (record { year = c .year; month = c .month; day = c .day; hour = c .hour + 1; minute = c .minute; second = c .second; hundredth = c .hundredth })
     (next-day (record { year = c .year; month = c .month; day = c .day; hour = 0; minute = c .minute; second = c .second; hundredth = c .hundredth }))
 
+-- a minute more, by the same clause: after 59 comes 0, in the next hour
 unfoldable pub next-minute : Clock → Clock
 next-minute c =
     cond (ltb (c .minute) 59)
     (record { year = c .year; month = c .month; day = c .day; hour = c .hour; minute = c .minute + 1; second = c .second; hundredth = c .hundredth })
     (next-hour (record { year = c .year; month = c .month; day = c .day; hour = c .hour; minute = 0; second = c .second; hundredth = c .hundredth }))
 
+-- a second more, by the same clause: after 59 comes 0, in the next minute
 unfoldable pub next-second : Clock → Clock
 next-second c =
     cond (ltb (c .second) 59)

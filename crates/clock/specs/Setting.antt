@@ -12,6 +12,7 @@ use Rattle.clock.specs.Clock.{month-length}
 abbrev pub to-bcd : ℕ → ℕ
 to-bcd n = 16 * (n / 10) + n % 10
 
+-- "packed BCD" read, for the bytes of 0x1B; whether a digit is above 9 is not asked here
 abbrev pub from-bcd : ℕ → ℕ
 from-bcd b = 10 * (b / 16) + b % 16
 

@@ -5,6 +5,7 @@ mod step;
 // The controller: its state, what goes in and what comes out of a step.
 ghost use mathlib.Core.Path.{_≡_};
 ghost use Rattle.controller.specs.State.{power-up, empty-queue, limits};
+ghost use Rattle.controller.specs.Step.{number};
 use clock::Clock;
 use mouse::Mouse;
 use mouse::Sending;
@@ -91,6 +92,21 @@ pub struct Acted {
     pub mouse: Mouse,
     pub sticks: Sticks,
     pub clock: Clock,
+}
+
+impl Answer {
+    // The number that document 01 gives the answer.
+    pub fn number(self) -> u8
+        ensures { λ r. ⌜ r ≡ number self ⌝ }
+    {
+        match self {
+            Answer::Taken => 0,
+            Answer::OutOfRange => 1,
+            Answer::QueueFull => 2,
+            Answer::MotionFull => 3,
+            Answer::BufferShort => 4,
+        }
+    }
 }
 
 impl Queue {

@@ -36,5 +36,6 @@ pub record Answered (s : State) (i : Input) (lent : ℕ) : Type 0 where
   -- "At most 8,264 bytes are ever due at once."
   pub most : length (step s i lent .written) ≤ most-due
 
+-- demand 1 whole: "in every state and with a lent buffer of every length, empty too"
 abbrev pub Demand1 : Type 0
 Demand1 = (s : State) (i : Input) (lent : ℕ) → IsState s → IsInput i → Answered s i lent

@@ -19,6 +19,7 @@ pub record Delivered (s : State) (i : Input) (o : Out) : Type 0 where
   pub in-order : contents (s .queue) ++ bytes (o .packets) ≡ o .dropped ++ (o .written ++ contents (o .state .queue))
   pub only-reset-drops : o .dropped ≡ cond (eqb (o .answer) 0 && resets-by s i) (contents (s .queue)) []
 
+-- demand 2 for one step, from every state: "none is missing, but for what a reset drops, and none is sent twice"
 abbrev pub Demand2-steps : Type 0
 Demand2-steps = (s : State) (i : Input) (lent : ℕ) → IsState s → Delivered s i (step s i lent)
 

@@ -23,6 +23,7 @@ pub record Seen : Type 0 where
   pub answer : ℕ
   pub written : List ℕ
 
+-- what is seen of a step: its answer and its bytes, without the state, what fell due and what a reset dropped
 abbrev pub seen : Done → Seen
 seen d = record { input = d .input; answer = d .out .answer; written = d .out .written }
 

@@ -14,10 +14,11 @@ use Rattle.controller.specs.Sequences.{Turn, Done, history, after, all-written}
 abbrev pub host : List ℕ → List Input
 host bs = map (λ (b : ℕ). Byte b) bs
 
--- the signed numbers of a motion
+-- a number of a motion without a minus: the 5 of "M 0 5"
 abbrev pub plus : ℕ → ℤ
 plus n = pos n
 
+-- a number of a motion with its minus: the -64 of "M -64 0"
 abbrev pub minus : ℕ → ℤ
 minus zero = pos zero
 minus (suc n) = negsuc n
@@ -30,6 +31,7 @@ move dx dy = Move dx dy ∷ []
 abbrev pub stick : ℕ → ℕ → ℕ → List Input
 stick which position trigger = Joystick (pos which) (pos position) (pos trigger) ∷ []
 
+-- one of "100 ticks", of "two ticks"
 abbrev pub tick : List Input
 tick = Tick ∷ []
 
@@ -48,6 +50,7 @@ pub record Stretch : Type 0 where
 abbrev pub gives : List Input → List ℕ → Stretch
 gives is bs = record { inputs = is; answer = 0; bytes = bs }
 
+-- "nothing": no byte is written
 abbrev pub nothing : List ℕ
 nothing = []
 
@@ -79,6 +82,7 @@ AllGo lent (x ∷ xs) = Goes lent power-up x × AllGo lent xs
 abbrev pub single : List Input → List ℕ → List Stretch
 single is bs = gives is bs ∷ []
 
+-- the twelve, "as one table under one statement", each under its line of document 01
 unfoldable pub sessions : List (List Stretch)
 sessions =
     -- 1. M 0 0: nothing.

@@ -34,6 +34,7 @@ pub record Call : Type 0 where
   pub lent : List ℕ
   pub is-lent : AllBytes lent
 
+-- a controller at a call: "Out come the new state, an answer number and a count of bytes written at the buffer's start."
 abbrev pub outcome : Controller → Call → Outcome
 outcome c k = c (k .state) (k .input) (k .lent)
 

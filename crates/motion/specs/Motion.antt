@@ -20,9 +20,11 @@ OneSided m = min (m .plus) (m .minus) ≡ 0
 abbrev pub size : Motion → ℕ
 size m = m .plus + m .minus
 
+-- 0 along one axis: what "clear held motion" leaves of it
 abbrev pub still : Motion
 still = record { plus = 0; minus = 0 }
 
+-- 0 along both: held motion at power-up ("all else zero"), after "all is sent" and after "clear held motion"
 abbrev pub at-rest : Motions
 at-rest = record { x = still; y = still }
 

@@ -15,10 +15,12 @@ use Rattle.mouse.specs.declared.Side.the-variants.{Left, Right}
 use Rattle.mouse.specs.Mouse.{live, with-latches}
 use Rattle.mouse.specs.Reports.{MouseDue, quiet, send-all, report}
 
+-- one of the state's "button levels": whether this button is down
 abbrev pub level : Side → Mouse → Bool
 level Left m = m .left
 level Right m = m .right
 
+-- the level that a button event brings: "buttons only change their level"
 abbrev pub with-level : Side → Bool → Mouse → Mouse
 with-level Left down m = record { place = m .place; held = m .held; left = down; right = m .right; latches = m .latches }
 with-level Right down m = record { place = m .place; held = m .held; left = m .left; right = down; latches = m .latches }

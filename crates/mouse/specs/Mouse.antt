@@ -31,6 +31,7 @@ held-below = 254
 unfoldable pub held-most : Bool → Settings → ℕ
 held-most paused σ = cond (paused && gathers σ) held-limit held-below
 
+-- coordinates of 0: "outside absolute mode", at power-up, and where 0x08, 0x09, 0x0A "zero the coordinates"; not the "Y origin"
 abbrev pub origin : Point
 origin = record { x = 0; y = 0 }
 
@@ -40,6 +41,7 @@ maximum-of Relative = origin
 maximum-of (Absolute maximum) = maximum
 maximum-of (Keycode delta) = origin
 
+-- ranges of the mouse's part: "Coordinates never pass 0 or the maximum", and held motion is within its two ranges above
 pub record IsMouse (paused : Bool) (σ : Settings) (m : Mouse) : Type 0 where
   pub x : m .place .x ≤ maximum-of (σ .mouse) .x
   pub y : m .place .y ≤ maximum-of (σ .mouse) .y
@@ -55,6 +57,7 @@ pub record OneMouse (m : Mouse) : Type 0 where
   pub x : OneSided (m .held .x)
   pub y : OneSided (m .held .y)
 
+-- no latch is set: at power-up ("all else zero"), and after 0x0D, which "clears the latches"
 abbrev pub no-latches : Latches
 no-latches = record { rightdown = false; rightup = false; leftdown = false; leftup = false }
 
@@ -62,12 +65,14 @@ no-latches = record { rightdown = false; rightup = false; leftdown = false; left
 abbrev pub at-power-up : Mouse
 at-power-up = record { place = origin; held = at-rest; left = false; right = false; latches = no-latches }
 
--- the mouse with one part replaced
+-- coordinates put in place of those before: "zero the coordinates", "0x0E is held to the maximum."; nothing else changes
 abbrev pub with-place : Point → Mouse → Mouse
 with-place p m = record { place = p; held = m .held; left = m .left; right = m .right; latches = m .latches }
 
+-- "held motion" put in place of what was held: with motion added, its remainder, or none once it is sent or cleared
 abbrev pub with-held : Motions → Mouse → Mouse
 with-held h m = record { place = m .place; held = h; left = m .left; right = m .right; latches = m .latches }
 
+-- the "four button latches" put in place of those before; nothing else changes
 abbrev pub with-latches : Latches → Mouse → Mouse
 with-latches l m = record { place = m .place; held = m .held; left = m .left; right = m .right; latches = l }

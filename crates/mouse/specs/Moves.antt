@@ -19,12 +19,13 @@ use Rattle.mouse.specs.declared.Mouse.{Mouse}
 use Rattle.mouse.specs.Mouse.{live, gathers, held-limit, with-held}
 use Rattle.mouse.specs.Reports.{MouseDue, quiet, send-all}
 
--- "Origin bottom negates dy as the event comes in, except in keycode mode."
+-- whether dy is negated: at "Origin bottom", "except in keycode mode"
 abbrev pub turns-y : MouseMode → Bool → Bool
 turns-y Relative bottom = bottom
 turns-y (Absolute maximum) bottom = bottom
 turns-y (Keycode delta) bottom = false
 
+-- "Origin bottom negates dy as the event comes in, except in keycode mode."
 unfoldable pub incoming : Settings → ℤ → ℤ → Motions
 incoming σ dx dy = record {
   x = of-signed dx;
@@ -43,6 +44,7 @@ either-reaches threshold d = reaches (d .x) (acts-as (threshold .x)) || reaches 
 abbrev pub quotients : Axes → Motions → Motions
 quotients scale d = record { x = quotient (d .x) (acts-as (scale .x)); y = quotient (d .y) (acts-as (scale .y)) }
 
+-- "the remainder stays": what that division leaves held, of both axes
 abbrev pub remainders : Axes → Motions → Motions
 remainders scale d = record { x = remainder (d .x) (acts-as (scale .x)); y = remainder (d .y) (acts-as (scale .y)) }
 

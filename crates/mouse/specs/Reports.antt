@@ -14,6 +14,7 @@ pub record MouseDue : Type 0 where
   pub packets : List Packet
   pub mouse : Mouse
 
+-- nothing falls due; the mouse is as given, changed before or not ("An unchanged level does nothing", "motion is dropped")
 abbrev pub quiet : Mouse → MouseDue
 quiet m = record { packets = []; mouse = m }
 

@@ -8,6 +8,7 @@ use Rattle.output.specs.ScanCodes.{break-of}
 abbrev pub bit : Bool → ℕ
 bit b = cond b 1 0
 
+-- demand 2's packets, which "come whole": a case for each kind that document 01 says is sent
 pub data Packet : Type 0 where
   -- a make or a break code
   scan : ℕ → Packet

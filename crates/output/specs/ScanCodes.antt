@@ -2,10 +2,11 @@
 use Prim.Native.Nat.{ℕ, _+_}
 use mathlib.Core.Bool.{Bool, cond}
 
--- "code 1 to 0x72"
+-- the first of "code 1 to 0x72"
 abbrev pub first-key : ℕ
 first-key = 1
 
+-- the last of "code 1 to 0x72"
 abbrev pub last-key : ℕ
 last-key = 0x72
 
@@ -17,22 +18,26 @@ break-of make = make + 0x80
 abbrev pub code-sent : ℕ → Bool → ℕ
 code-sent make down = cond down make (break-of make)
 
--- "0x4D right, 0x4B left, 0x48 up, 0x50 down"
+-- "0x4D right": the first of "the mouse's arrow codes", which stick 0 gives too
 abbrev pub arrow-right : ℕ
 arrow-right = 0x4D
 
+-- "0x4B left"
 abbrev pub arrow-left : ℕ
 arrow-left = 0x4B
 
+-- "0x48 up": away from the user
 abbrev pub arrow-up : ℕ
 arrow-up = 0x48
 
+-- "0x50 down": "toward the user"
 abbrev pub arrow-down : ℕ
 arrow-down = 0x50
 
--- "keys 0x74 left, 0x75 right", and the triggers of stick 0 and stick 1
+-- the left button as a key, "0x74 left", and the trigger of "0x74 for stick 0"
 abbrev pub key-left : ℕ
 key-left = 0x74
 
+-- the right button as a key, "0x75 right", and the trigger of "0x75 for stick 1"
 abbrev pub key-right : ℕ
 key-right = 0x75

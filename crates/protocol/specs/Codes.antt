@@ -16,6 +16,7 @@ pub record Entry : Type 0 where
   pub parameters : ℕ
   pub meaning : Meaning
 
+-- such a line from its code, its count of parameter bytes and its meaning
 abbrev pub entry : ℕ → ℕ → Meaning → Entry
 entry b n m = record { code = b; parameters = n; meaning = m }
 
@@ -69,12 +70,15 @@ unfoldable pub find : List Entry → ℕ → Entry
 find [] b = entry b 0 Nothing
 find (e ∷ es) b = cond (eqb b (e .code)) e (find es b)
 
+-- the line of a code in the "constant table of parameter counts by command code"
 unfoldable pub line : ℕ → Entry
 line b = find table b
 
+-- "Parameter bytes": how many follow this code; of 0x20, those before its data
 abbrev pub parameters-of : ℕ → ℕ
 parameters-of b = line b .parameters
 
+-- which command or inquiry a code is; "Other codes do nothing."
 abbrev pub meaning-of : ℕ → Meaning
 meaning-of b = line b .meaning
 

@@ -84,7 +84,7 @@ axes-at i ps = record { x = getD ps i 0; y = getD ps (i + 1) 0 }
 abbrev pub point-at : ℕ → List ℕ → Point
 point-at i ps = record { x = 256 * getD ps i 0 + getD ps (i + 1) 0; y = 256 * getD ps (i + 2) 0 + getD ps (i + 3) 0 }
 
--- The settings with one of them replaced, and port 0 a mouse: "Executed 0x07 to 0x10 make port 0 a mouse".
+-- 0x07: the action put in place of the one before; "Executed 0x07 to 0x10 make port 0 a mouse"; nothing else changes
 abbrev pub with-action : ℕ → Settings → Settings
 with-action a σ = record {
   mouse = σ .mouse;
@@ -98,6 +98,7 @@ with-action a σ = record {
   port0 = ForMouse;
 }
 
+-- 0x0B, "kept in every mouse mode": the threshold put in place of the one before, and port 0 a mouse; nothing else changes
 abbrev pub with-threshold : Axes → Settings → Settings
 with-threshold a σ = record {
   mouse = σ .mouse;
@@ -111,6 +112,7 @@ with-threshold a σ = record {
   port0 = ForMouse;
 }
 
+-- 0x0C, "kept in every mouse mode": the scale put in place of the one before, and port 0 a mouse; nothing else changes
 abbrev pub with-scale : Axes → Settings → Settings
 with-scale a σ = record {
   mouse = σ .mouse;
@@ -124,6 +126,7 @@ with-scale a σ = record {
   port0 = ForMouse;
 }
 
+-- 0x0F and 0x10: the "Y origin" put at the bottom (true) or the top, and port 0 a mouse; nothing else changes
 abbrev pub with-origin : Bool → Settings → Settings
 with-origin b σ = record {
   mouse = σ .mouse;
@@ -236,6 +239,7 @@ stick-sets SetFire ps σ = with-stick Fire σ
 stick-sets SetCursor ps σ = with-stick (cursor-of ps) σ
 stick-sets SticksOff ps σ = without-sticks σ
 
+-- "0x12 turns the mouse off"; 0x11, 0x1B and 0x1C leave every setting; none of the four touches port 0's role
 unfoldable pub other-sets : OtherCommand → Settings → Settings
 other-sets Resume σ = σ
 other-sets MouseOff σ = without-mouse σ

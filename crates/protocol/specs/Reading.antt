@@ -13,9 +13,11 @@ use Rattle.protocol.specs.Codes.{parameters-of, memory-load}
 abbrev pub most-parameters : ℕ
 most-parameters = 6
 
+-- the six places for parameter bytes, before any has come
 abbrev pub zeros : List ℕ
 zeros = 0 ∷ 0 ∷ 0 ∷ 0 ∷ 0 ∷ 0 ∷ []
 
+-- no half-received command: at power-up ("all else zero"), and once the last byte has come
 abbrev pub no-command : Command
 no-command = record { code = 0; come = 0; params = zeros; pending = 0 }
 
@@ -50,6 +52,7 @@ take-data c =
     cond (eqb (c .pending) 1) (whole (c .code) (c .params))
     (half (record { code = c .code; come = c .come; params = c .params; pending = c .pending - 1 }))
 
+-- a host byte begins a command, or is the next byte of "a half-received command": a data byte of 0x20, or a parameter
 unfoldable pub feed : Command → ℕ → Fed
 feed c b = cond (eqb (c .code) 0) (begin b) (cond (ltb 0 (c .pending)) (take-data c) (take-parameter c b))
 

@@ -12,25 +12,29 @@ use Rattle.protocol.specs.declared.Role.{Role}
 use Rattle.protocol.specs.declared.Role.the-variants.{ForMouse, ForJoystick}
 use Rattle.protocol.specs.declared.Settings.{Settings}
 
--- "a setting's numbers are those that its command's bytes can carry"
+-- "a setting's numbers are those that its command's bytes can carry": a byte each for thresholds, scales and deltas
 pub record IsAxes (a : Axes) : Type 0 where
   pub x : a .x ≤ 255
   pub y : a .y ≤ 255
 
+-- the same for "maximum X, Y", of two bytes each
 pub record IsPoint (p : Point) : Type 0 where
   pub x : p .x ≤ 65535
   pub y : p .y ≤ 65535
 
+-- the same for one axis of "RX RY TX TY VX VY": R, T and V, a byte each
 pub record IsRepeat (k : Repeat) : Type 0 where
   pub breakpoint : k .breakpoint ≤ 255
   pub before : k .before ≤ 255
   pub after : k .after ≤ 255
 
+-- "mouse mode (relative; absolute with maximum X, Y; keycode with deltas)": its numbers are in range
 abbrev pub IsMouseMode : MouseMode → Type 0
 IsMouseMode Relative = Unit {0}
 IsMouseMode (Absolute maximum) = IsPoint maximum
 IsMouseMode (Keycode delta) = IsAxes delta
 
+-- "joystick mode (event, interrogation, monitoring with rate, fire monitoring, keycode with RX RY TX TY VX VY)": its numbers are in range
 abbrev pub IsStickMode : StickMode → Type 0
 IsStickMode Event = Unit {0}
 IsStickMode Interrogation = Unit {0}
@@ -42,6 +46,7 @@ IsStickMode (Cursor x y) = IsRepeat x × IsRepeat y
 abbrev pub most-action : ℕ
 most-action = 4
 
+-- the ranges of all settings; origin, mouse off or on, joysticks off or on and port 0's role have two values and no number
 pub record IsSettings (σ : Settings) : Type 0 where
   pub mouse : IsMouseMode (σ .mouse)
   pub action : σ .action ≤ most-action
@@ -75,15 +80,18 @@ monitors (Monitoring rate) = true
 monitors Fire = true
 monitors (Cursor x y) = false
 
+-- absolute mode, of "0x0D and 0x0E outside absolute mode"; the other two are "relative or keycode mode"
 abbrev pub is-absolute : MouseMode → Bool
 is-absolute Relative = false
 is-absolute (Absolute maximum) = true
 is-absolute (Keycode delta) = false
 
+-- port 0's role is mouse, as "Live: on, port 0 mouse, not monitoring." asks
 abbrev pub is-mouse : Role → Bool
 is-mouse ForMouse = true
 is-mouse ForJoystick = false
 
+-- port 0's role is joystick, as "stick 1 or port 0 a joystick" asks
 abbrev pub is-joystick : Role → Bool
 is-joystick ForMouse = false
 is-joystick ForJoystick = true

@@ -26,6 +26,7 @@ stored one new s = record {
   bits = s .bits;
 }
 
+-- "age and wait of each axis" put in place of those before; nothing else changes
 abbrev pub with-counts : Count → Count → Sticks → Sticks
 with-counts x y s = record { zero = s .zero; one = s .one; x = x; y = y; ticks = s .ticks; samples = s .samples; bits = s .bits }
 
@@ -52,11 +53,12 @@ unfoldable pub turned : ℕ → ℕ → Count → CountDue
 turned old new c =
     cond (eqb old new) (unmoved c) (record { packets = cond (eqb new 0) [] (pair new); count = no-count })
 
--- stick 0's axes in keycode mode; "otherwise the counts stand still"
+-- stick 0's horizontal axis in keycode mode; "otherwise the counts stand still"
 unfoldable pub turned-x : Settings → Bool → Stick → Stick → Sticks → CountDue
 turned-x σ one old new s =
     cond (steers σ && not one) (turned (horizontal (old .position)) (horizontal (new .position)) (s .x)) (unmoved (s .x))
 
+-- stick 0's vertical axis in keycode mode; "otherwise the counts stand still"
 unfoldable pub turned-y : Settings → Bool → Stick → Stick → Sticks → CountDue
 turned-y σ one old new s =
     cond (steers σ && not one) (turned (vertical (old .position)) (vertical (new .position)) (s .y)) (unmoved (s .y))
@@ -80,5 +82,6 @@ moved-in (Monitoring rate) σ one new s = record { packets = []; sticks = stored
 moved-in Fire σ one new s = record { packets = []; sticks = stored one new s }
 moved-in (Cursor x y) σ one new s = cursor-moved σ one new s
 
+-- an event of "Stick: 0 or 1, position 0 to 15, trigger", in the joystick mode that is set
 unfoldable pub moved : Settings → Bool → Stick → Sticks → SticksDue
 moved σ one new s = moved-in (σ .stick) σ one new s

@@ -20,10 +20,11 @@ pair-of arrow = cond (eqb arrow 0) [] (pair arrow)
 abbrev pub scan-of : ℕ → List Packet
 scan-of code = cond (eqb code 0) [] (scan code ∷ [])
 
--- a run of bytes with an arrow's pair, or with one code, at its end
+-- a run of bytes with a pair at its end, where "a direction other than none gives a pair"; an arrow of 0 is none
 abbrev pub with-pair : ℕ → Short → Short
 with-pair arrow r = cond (eqb arrow 0) r (added (break-of arrow) (added arrow r))
 
+-- a run of bytes with the code of "a changed trigger" at its end, "trigger last"; a code of 0 is none
 abbrev pub with-code : ℕ → Short → Short
 with-code code r = cond (eqb code 0) r (added code r)
 

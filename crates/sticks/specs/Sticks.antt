@@ -38,10 +38,12 @@ most-samples (Monitoring rate) = 0
 most-samples Fire = 7
 most-samples (Cursor x y) = 0
 
+-- "age and wait of each axis, 0 to 2,551": those of one axis
 pub record IsCount (c : Count) : Type 0 where
   pub age : c .age ≤ most-count
   pub wait : c .wait ≤ most-count
 
+-- ranges of the sticks' part: both positions, age and wait of both axes, monitoring ticks and samples as the mode has them
 pub record IsSticks (mode : StickMode) (s : Sticks) : Type 0 where
   pub zero : s .zero .position ≤ most-position
   pub one : s .one .position ≤ most-position
@@ -54,9 +56,11 @@ pub record IsSticks (mode : StickMode) (s : Sticks) : Type 0 where
 abbrev pub OneSticks : Sticks → Type 0
 OneSticks s = s .bits < 2 ^ s .samples
 
+-- a stick at power-up ("all else zero"): nothing closed, trigger 0
 abbrev pub centred : Stick
 centred = record { position = 0; trigger = false }
 
+-- age and wait of 0: at power-up, after "clear repeat counts", and where "its age and wait become 0"
 abbrev pub no-count : Count
 no-count = record { age = 0; wait = 0 }
 
@@ -69,6 +73,7 @@ pub record SticksDue : Type 0 where
   pub packets : List Packet
   pub sticks : Sticks
 
+-- nothing falls due; the sticks are as given, changed before or not ("samples elsewhere do nothing", "ticks move only the clock")
 abbrev pub quiet : Sticks → SticksDue
 quiet s = record { packets = []; sticks = s }
 
@@ -81,6 +86,7 @@ pub record CountDue : Type 0 where
   pub packets : List Packet
   pub count : Count
 
+-- nothing falls due of an axis, and its age and wait are as given: "otherwise the counts stand still"
 abbrev pub unmoved : Count → CountDue
 unmoved c = record { packets = []; count = c }
 
@@ -100,8 +106,10 @@ closed w position = eqb (position / w % 2) 1
 abbrev pub direction : Bool → ℕ → Bool → ℕ → ℕ
 direction a code-a b code-b = cond a (cond b 0 code-a) (cond b code-b 0)
 
+-- left and right, bits 2 and 3 of the position; "Horizontal comes first"
 unfoldable pub horizontal : ℕ → ℕ
 horizontal position = direction (closed 4 position) arrow-left (closed 8 position) arrow-right
 
+-- up and down, bits 0 and 1 of the position
 unfoldable pub vertical : ℕ → ℕ
 vertical position = direction (closed 1 position) arrow-up (closed 2 position) arrow-down

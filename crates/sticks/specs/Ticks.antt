@@ -14,9 +14,11 @@ use Rattle.sticks.specs.declared.Sticks.{Sticks}
 use Rattle.sticks.specs.Sticks.{SticksDue, quiet, CountDue, unmoved, most-count, horizontal, vertical}
 use Rattle.sticks.specs.Events.{with-counts, steers}
 
+-- the "monitoring ticks" put in place of those before; nothing else changes
 abbrev pub with-ticks : ℕ → Sticks → Sticks
 with-ticks n s = record { zero = s .zero; one = s .one; x = s .x; y = s .y; ticks = n; samples = s .samples; bits = s .bits }
 
+-- "samples (0 to 7 of them)": their number and their bits put in place of those before; nothing else changes
 abbrev pub with-samples : ℕ → ℕ → Sticks → Sticks
 with-samples n bits s = record { zero = s .zero; one = s .one; x = s .x; y = s .y; ticks = s .ticks; samples = n; bits = bits }
 

@@ -13,20 +13,23 @@ use lib.Seq.{take-length}
 use Rattle.controller.specs.declared.Input.{Input}
 use Rattle.text.specs.declared.Line.the-variants.{Good, Bad}
 use Rattle.text.specs.Line.{tab, lengthened, fields, none-more, one-more, two-more, three-more}
-use Rattle.text.specs.Fronts.{first}
+use Rattle.text.specs.Fronts.{up-to, first}
 
-pub first-most : (l : List ℕ) → length (first l) ≤ length l
-unfolding first
-first-most [] = omega arith
-first-most (b ∷ l) = at (eqb b tab) (first-most l)
+pub up-to-most : (stop : ℕ) (l : List ℕ) → length (up-to stop l) ≤ length l
+unfolding up-to
+up-to-most stop [] = omega arith
+up-to-most stop (b ∷ l) = at (eqb b stop) (up-to-most stop l)
   where
-    at : (t : Bool) → length (first l) ≤ length l → length (cond t [] (b ∷ first l)) ≤ suc (length l)
+    at : (t : Bool) → length (up-to stop l) ≤ length l → length (cond t [] (b ∷ up-to stop l)) ≤ suc (length l)
     at true h = omega arith
     at false h = omega arith
 
+pub first-most : (l : List ℕ) → length (first l) ≤ length l
+first-most l = up-to-most tab l
+
 -- the first field is all there is
 pub only : (l : List ℕ) → length l ≤ length (first l) → fields l ≡ first l ∷ []
-unfolding first fields
+unfolding up-to fields
 only [] h = refl
 only (b ∷ l) h = at (eqb b tab) h (only l)
   where
@@ -36,7 +39,7 @@ only (b ∷ l) h = at (eqb b tab) h (only l)
 
 -- the first field ends at a tab, and the others stand after that
 pub more : (l : List ℕ) → length (first l) < length l → fields l ≡ first l ∷ fields (drop (suc (length (first l))) l)
-unfolding first fields
+unfolding up-to fields
 more [] h = absurd (omega arith)
 more (b ∷ l) h = at (eqb b tab) h (more l)
   where

@@ -12,15 +12,21 @@ use Rattle.text.specs.declared.numbers.Front.{Front}
 use Rattle.text.specs.declared.numbers.Front.the-variants.{Number, NoNumber}
 use Rattle.text.specs.Line.{tab, natural, number}
 
-unfoldable pub first : List ℕ → List ℕ
-first [] = []
-first (b ∷ l) = cond (eqb b tab) [] (b ∷ first l)
+-- the bytes of a text up to the first one that is `stop`, or all of them
+unfoldable pub up-to : ℕ → List ℕ → List ℕ
+up-to stop [] = []
+up-to stop (b ∷ l) = cond (eqb b stop) [] (b ∷ up-to stop l)
+
+-- the first of the fields of a text
+abbrev pub first : List ℕ → List ℕ
+first l = up-to tab l
 
 -- the digits that are the first field, and its length
 abbrev pub digits-read : Option ℕ → ℕ → Digits
 digits-read none n = NoNatural
 digits-read (some v) n = Natural v n
 
+-- what stands in the first field as "1 to 4 decimal digits", with its length
 unfoldable pub digits-of : List ℕ → Digits
 digits-of l = digits-read (natural (first l)) (length (first l))
 
@@ -29,5 +35,6 @@ abbrev pub number-read : Option ℤ → ℕ → Front
 number-read none n = NoNumber
 number-read (some z) n = Number z n
 
+-- what stands in the first field as "an optional minus and 1 to 4 decimal digits", with its length
 unfoldable pub front-of : List ℕ → Front
 front-of l = number-read (number (first l)) (length (first l))

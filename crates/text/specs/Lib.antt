@@ -1,3 +1,5 @@
 pub mod Line
 pub mod Output
 pub mod Fronts
+pub mod Play
+pub mod Session

@@ -14,6 +14,7 @@ use Rattle.controller.specs.declared.Input.the-variants.{Byte, Key, Button, Mov
 use Rattle.text.specs.declared.Line.{Line}
 use Rattle.text.specs.declared.Line.the-variants.{Good, Bad}
 
+-- what parts the fields of a line
 abbrev pub tab : ℕ
 tab = code "\t"
 
@@ -70,24 +71,27 @@ abbrev pub with : {A : Type 0} → Option A → (A → Line) → Line
 with none make = Bad
 with (some x) make = make x
 
--- the further fields of a line are exactly none, one, two or three, and are read so
+-- the line has no further field, as "T" has none
 abbrev pub none-more : Input → List (List ℕ) → Line
 none-more input [] = Good input
 none-more input (f ∷ fs) = Bad
 
+-- it has exactly one, read by a, as "B hex"
 abbrev pub one-more : {A : Type 0} → (List ℕ → Option A) → (A → Input) → List (List ℕ) → Line
 one-more a make [] = Bad
 one-more a make (f ∷ fs) = with (a f) (λ x. none-more (make x) fs)
 
+-- it has exactly two, read by a and b, as "M dx dy"
 abbrev pub two-more : {A B : Type 0} → (List ℕ → Option A) → (List ℕ → Option B) → (A → B → Input) → List (List ℕ) → Line
 two-more a b make [] = Bad
 two-more a b make (f ∷ fs) = with (a f) (λ x. one-more b (make x) fs)
 
+-- it has exactly three, as "S stick position trigger"
 abbrev pub three-more : {A B C : Type 0} → (List ℕ → Option A) → (List ℕ → Option B) → (List ℕ → Option C) → (A → B → C → Input) → List (List ℕ) → Line
 three-more a b c make [] = Bad
 three-more a b c make (f ∷ fs) = with (a f) (λ x. two-more b c (make x) fs)
 
--- The seven kinds, by the byte that is their first field: "B hex; K hex 1/0; L or R 1/0; M dx dy; S stick position trigger; F bit; T."
+-- The kinds, by the byte that is their first field: "B hex; K hex 1/0; L or R 1/0; M dx dy; S stick position trigger; F bit; T."
 unfoldable pub kind : ℕ → List (List ℕ) → Line
 kind b fs =
     cond (eqb b (code "B")) (one-more hex Byte fs)
@@ -106,6 +110,7 @@ meaning ([] ∷ fs) = Bad
 meaning ((b ∷ []) ∷ fs) = kind b fs
 meaning ((b ∷ c ∷ f) ∷ fs) = Bad
 
+-- what a line means, by its fields: the paragraph's first four sentences
 unfoldable pub line-of : List ℕ → Line
 line-of l = meaning (fields l)
 

@@ -13,6 +13,7 @@ abbrev pub text : String → List ℕ
 text empty = []
 text (c then s) = code c ∷ text s
 
+-- "Output: header", as the example prints it
 abbrev pub header : List ℕ
 header = text "line\tanswer\tbytes\n"
 
@@ -20,13 +21,14 @@ header = text "line\tanswer\tbytes\n"
 abbrev pub figure : ℕ → ℕ
 figure d = code "0" + d
 
--- a number in decimal, without zeros in front; k is at least the count of its digits, as the next number is
+-- the digits of a number, without zeros in front; k is at least the count of its digits, as the next number is
 unfoldable pub decimal-in : ℕ → ℕ → List ℕ
 decimal-in zero n = []
 decimal-in (suc k) n =
     let tenth = decimal-in k (n / 10) ++ (figure (n % 10) ∷ []) in
     cond (ltb n 10) (figure n ∷ []) tenth
 
+-- a number in decimal, as "input line number" is printed
 abbrev pub decimal : ℕ → List ℕ
 decimal n = decimal-in (suc n) n
 

@@ -1,0 +1,196 @@
+// Plays sessions with buffers of any length. A line `=`, a tab and a number begins a session from power-up in which that many bytes
+// are lent with every input; it is printed as it stands. For any other line its number in the session, the answer and the bytes are
+// printed, as the text program prints them.
+ghost use mathlib.Core.Path.{_≡_};
+ghost use Prim.Native.Nat.{_+_, _≤_, _<_, _^_};
+ghost use lib.ListN.{length};
+ghost use Rattle.controller.specs.State.{IsState};
+ghost use Rattle.text.specs.Output.{line-room};
+use controller::State;
+
+// How many blocks are read at most: more than any input has, and few enough that a line's number has 64 bits.
+const MOST_BLOCKS: u64 = 140_737_488_355_328;
+
+// A session between two lines: the state, the number of the next line, and how many bytes are lent with each input.
+pub struct Session {
+    pub state: State,
+    pub number: u64,
+    pub lent: usize,
+}
+
+// What a line came to: the session behind it, and how many bytes were printed.
+pub struct Printed {
+    pub session: Session,
+    pub count: usize,
+}
+
+// What a block came to: the session, how many of its bytes were answered, and whether all answers were written.
+pub struct Answered {
+    pub session: Session,
+    pub used: usize,
+    pub written: bool,
+}
+
+fn power_up(lent: usize) -> Session
+    ensures { λ r. ⌜ IsState (r .state) ⌝ }
+    ensures { λ r. ⌜ r .number ≡ 1 ⌝ }
+{
+    Session {
+        state: State::power_up(),
+        number: 1,
+        lent: lent,
+    }
+}
+
+// Whether a line begins a session.
+fn is_head(line: &[u8]) -> bool {
+    if line.len() < 3 {
+        return false;
+    }
+    if line[0] == b'=' {
+        return line[1] == b'\t';
+    }
+    false
+}
+
+// The number in such a line, up to five digits of it.
+fn number_in(line: &[u8]) -> usize {
+    let mut value = 0;
+    let mut i = 2;
+    while i < line.len() {
+        let d = line[i];
+        if d < b'0' {
+            return value;
+        }
+        if b'9' < d {
+            return value;
+        }
+        if 9_999 < value {
+            return value;
+        }
+        value = value * 10 + (d - b'0') as usize;
+        i += 1;
+    }
+    value
+}
+
+fn smaller(a: usize, b: usize) -> usize
+    ensures { λ r. ⌜ r ≤ b ⌝ }
+{
+    if a < b { a } else { b }
+}
+
+// One line, given without its line feed.
+fn print(session: Session, line: &[u8], lent: &mut [u8], out: &mut [u8]) -> Printed
+    requires { ⌜ IsState (session .state) ⌝ }
+    requires { ⌜ session .number + 1 < 2 ^ 64 ⌝ }
+    requires { ⌜ line-room (length (now lent)) ≤ length (now out) ⌝ }
+    ensures { λ r. ⌜ IsState (r .session .state) ⌝ }
+    ensures { λ r. ⌜ r .session .number ≤ session .number + 1 ⌝ }
+    ensures { λ r. ⌜ r .count ≤ length (now (out .entry)) ⌝ }
+{
+    let n = line.len();
+    if is_head(line) {
+        if n < out.len() {
+            output::copy(line, n, out);
+            out[n] = b'\n';
+            return Printed {
+                session: power_up(number_in(line)),
+                count: n + 1,
+            };
+        }
+    }
+    let room = smaller(session.lent, lent.len());
+    let before = session.state;
+    let played = text::play(before, session.number, line, &mut lent[..room], out);
+    let after = played.state;
+    Printed {
+        session: Session {
+            state: after,
+            number: session.number + 1,
+            lent: session.lent,
+        },
+        count: played.count,
+    }
+}
+
+// The lines that end in a block. A write that fails ends the program.
+fn answer(session: Session, block: &[u8], lent: &mut [u8], out: &mut [u8]) -> Answered
+    requires { ⌜ IsState (session .state) ⌝ }
+    requires { ⌜ session .number + length (now block) < 2 ^ 64 ⌝ }
+    requires { ⌜ line-room (length (now lent)) ≤ length (now out) ⌝ }
+    ensures { λ r. ⌜ IsState (r .session .state) ⌝ }
+    ensures { λ r. ⌜ r .session .number ≤ session .number + r .used ⌝ }
+    ensures { λ r. ⌜ r .used ≤ length (now (block .entry)) ⌝ }
+{
+    let n = block.len();
+    let mut now = session;
+    let mut from = 0;
+    while from < n {
+        let end = text::line_end(block, from);
+        if end == n {
+            return Answered {
+                session: now,
+                used: from,
+                written: true,
+            };
+        }
+        let printed = print(now, &block[from..end], lent, out);
+        if !io::write_all(1, &out[..printed.count]) {
+            return Answered {
+                session: now,
+                used: from,
+                written: false,
+            };
+        }
+        now = printed.session;
+        from = end + 1;
+    }
+    Answered {
+        session: now,
+        used: from,
+        written: true,
+    }
+}
+
+// More input, behind what was kept of the block: how many bytes the block has then.
+fn read_on(kept: usize, block: &mut [u8]) -> usize
+    requires { ⌜ kept ≤ length (now block) ⌝ }
+    ensures { λ r. ⌜ (kept ≤ r) × (r ≤ length (now (block .entry))) ⌝ }
+{
+    let free = &mut block[kept..];
+    let got = libc::read(0, free);
+    kept + io::count(got, free)
+}
+
+// The lines of all sessions, block by block.
+fn run(block: &mut [u8], lent: &mut [u8], out: &mut [u8])
+    requires { ⌜ length (now block) ≡ 65536 ⌝ }
+    requires { ⌜ line-room (length (now lent)) ≤ length (now out) ⌝ }
+{
+    let mut session = power_up(lent.len());
+    let mut kept = 0;
+    let mut blocks = MOST_BLOCKS;
+    while blocks > 0 {
+        let n = read_on(kept, block);
+        if n == kept {
+            let end = text::finish(block, kept);
+            answer(session, &block[..end], lent, out);
+            return;
+        }
+        let done = answer(session, &block[..n], lent, out);
+        if !done.written {
+            return;
+        }
+        session = done.session;
+        kept = text::keep(block, done.used, n);
+        blocks -= 1;
+    }
+}
+
+fn main() {
+    let mut block = io::large_buffer();
+    let mut lent = [0; State::MOST_DUE];
+    let mut out = io::large_buffer();
+    run(&mut block, &mut lent, &mut out);
+}

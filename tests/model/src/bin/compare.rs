@@ -1,0 +1,209 @@
+//! Compares two programs on sessions made at random.
+//!
+//! compare --ours PROGRAM --theirs PROGRAM --seeds FIRST COUNT --lines N [--vectors]
+//!
+//! On a difference the session is shortened while the difference stays.
+
+use std::io::{Read, Write};
+use std::process::{exit, Command, Stdio};
+
+use model::coverage::answer_counts;
+use model::generator::session;
+use model::program::Format;
+
+const USAGE: &str = "usage: compare --ours PROGRAM --theirs PROGRAM \
+                     --seeds FIRST COUNT --lines N [--vectors]";
+
+struct Task {
+    ours: String,
+    theirs: String,
+    first: u64,
+    count: u64,
+    lines: usize,
+    format: Format,
+}
+
+impl Task {
+    fn read(mut words: impl Iterator<Item = String>) -> Option<Task> {
+        let (mut ours, mut theirs, mut seeds, mut lines) = (None, None, None, None);
+        let mut format = Format::Text;
+        while let Some(word) = words.next() {
+            match word.as_str() {
+                "--ours" => ours = words.next(),
+                "--theirs" => theirs = words.next(),
+                "--seeds" => {
+                    seeds = Some((words.next()?.parse().ok()?, words.next()?.parse().ok()?))
+                }
+                "--lines" => lines = words.next()?.parse().ok(),
+                "--vectors" => format = Format::Vectors,
+                _ => return None,
+            }
+        }
+        let (first, count) = seeds?;
+        Some(Task {
+            ours: ours?,
+            theirs: theirs?,
+            first,
+            count,
+            lines: lines?,
+            format,
+        })
+    }
+
+    /// The outputs of both programs.
+    fn outputs(&self, session: &[u8]) -> (Vec<u8>, Vec<u8>) {
+        (run(&self.ours, session), run(&self.theirs, session))
+    }
+
+    fn differs(&self, lines: &[&[u8]]) -> bool {
+        let (ours, theirs) = self.outputs(&lines.concat());
+        ours != theirs
+    }
+
+    /// The lines of input before the end of the first line that differs.
+    fn up_to_difference<'a>(&self, lines: &[&'a [u8]], difference: usize) -> Vec<&'a [u8]> {
+        let header = usize::from(self.format == Format::Text);
+        let kept = (difference + 1).saturating_sub(header).min(lines.len());
+        lines[..kept].to_vec()
+    }
+
+    /// Removes chunks of lines, ever smaller ones, while the difference stays.
+    fn shrink<'a>(&self, mut lines: Vec<&'a [u8]>) -> Vec<&'a [u8]> {
+        let mut chunk = lines.len().div_ceil(2).max(1);
+        loop {
+            let length = lines.len();
+            lines = self.remove_chunks(lines, chunk);
+            if lines.len() == length && chunk == 1 {
+                return lines;
+            }
+            chunk = chunk.div_ceil(2);
+        }
+    }
+
+    /// From the end, so that what the difference needs is met last.
+    fn remove_chunks<'a>(&self, mut lines: Vec<&'a [u8]>, chunk: usize) -> Vec<&'a [u8]> {
+        let mut end = lines.len();
+        while end > 0 {
+            let start = end.saturating_sub(chunk);
+            let shorter = [&lines[..start], &lines[end..]].concat();
+            if self.differs(&shorter) {
+                lines = shorter;
+            }
+            end = start;
+        }
+        lines
+    }
+
+    /// The shortest session found, and both outputs where they part.
+    fn report(&self, seed: u64, session: &[u8], difference: usize) -> String {
+        let lines: Vec<&[u8]> = session.split_inclusive(|&byte| byte == b'\n').collect();
+        let cut = self.up_to_difference(&lines, difference);
+        let shortest = match self.differs(&cut) {
+            true => self.shrink(cut),
+            false => self.shrink(lines),
+        };
+        let session = shortest.concat();
+        let (ours, theirs) = self.outputs(&session);
+        let place = first_difference(&ours, &theirs).unwrap_or(0);
+        format!(
+            "seed {seed} differs; lines of the shortest session found: {}\n{}\n\
+             output line {}:\nours:   {}\ntheirs: {}\n",
+            shortest.len(),
+            String::from_utf8_lossy(&session).trim_end_matches('\n'),
+            place + 1,
+            line_of(&ours, place),
+            line_of(&theirs, place),
+        )
+    }
+}
+
+/// Runs a program, with words after its name as its arguments.
+fn run(program: &str, input: &[u8]) -> Vec<u8> {
+    let mut words = program.split_whitespace();
+    let child = Command::new(words.next().unwrap_or_default())
+        .args(words)
+        .stdin(Stdio::piped())
+        .stdout(Stdio::piped())
+        .spawn();
+    let mut child = child.unwrap_or_else(|error| {
+        eprintln!("{program}: {error}");
+        exit(2);
+    });
+    let (stdin, stdout) = (child.stdin.take(), child.stdout.take());
+    let mut output = Vec::new();
+    std::thread::scope(|scope| {
+        // A program that ends early is seen by what its output lacks.
+        scope.spawn(|| stdin.map(|mut pipe| pipe.write_all(input)));
+        let _ = stdout.map(|mut pipe| pipe.read_to_end(&mut output));
+    });
+    // How a program ended is part of what it gave.
+    match child.wait() {
+        Ok(status) if status.success() => {}
+        Ok(status) => output.extend(format!("({status})\n").bytes()),
+        Err(error) => output.extend(format!("({error})\n").bytes()),
+    }
+    output
+}
+
+/// The number of the first line, from 0, that is not the same in both.
+fn first_difference(ours: &[u8], theirs: &[u8]) -> Option<usize> {
+    if ours == theirs {
+        return None;
+    }
+    let same = ours.iter().zip(theirs).take_while(|(a, b)| a == b).count();
+    Some(ours[..same].iter().filter(|&&byte| byte == b'\n').count())
+}
+
+fn line_of(output: &[u8], number: usize) -> String {
+    let line = output.split_inclusive(|&byte| byte == b'\n').nth(number);
+    line.map_or("(no such line)".into(), |line| {
+        String::from_utf8_lossy(line).trim_end_matches('\n').into()
+    })
+}
+
+/// Adds the answers in an output, and counts its numbered lines.
+fn count_answers(output: &[u8], answers: &mut [u64; 10]) -> u64 {
+    let mut count = 0;
+    for line in output.split(|&byte| byte == b'\n') {
+        let mut fields = line.split(|&byte| byte == b'\t');
+        let number = fields.next().unwrap_or_default();
+        if let (true, Some([digit @ b'0'..=b'9'])) =
+            (number.iter().all(u8::is_ascii_digit), fields.next())
+        {
+            answers[usize::from(digit - b'0')] += 1;
+            count += 1;
+        }
+    }
+    count
+}
+
+fn main() {
+    let Some(task) = Task::read(std::env::args().skip(1)) else {
+        eprintln!("{USAGE}");
+        exit(2);
+    };
+    let (mut lines, mut answers) = (0, [0; 10]);
+    for seed in task.first..task.first + task.count {
+        let session = session(seed, task.lines, task.format);
+        let (ours, theirs) = task.outputs(&session);
+        if let Some(difference) = first_difference(&ours, &theirs) {
+            print(&task.report(seed, &session, difference));
+            exit(1);
+        }
+        let count = count_answers(&ours, &mut answers);
+        if count == 0 && !session.is_empty() {
+            eprintln!("no answers at all from {}", task.ours);
+            exit(2);
+        }
+        lines += count;
+    }
+    print(&format!(
+        "{lines} lines compared, no difference; answers {}\n",
+        answer_counts(&answers)
+    ));
+}
+
+/// A write that fails is of no matter: the exit status tells the outcome.
+fn print(text: &str) {
+    let _ = std::io::stdout().write_all(text.as_bytes());
+}

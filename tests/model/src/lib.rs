@@ -1,0 +1,19 @@
+//! A model of the keyboard controller, written from document 01 alone.
+//!
+//! `controller::step` takes one input in a state; `text` reads and writes the
+//! lines of the text program. The rest serves the comparison with another
+//! program: sessions made at random and the sessions that the papers state.
+
+pub mod clock;
+pub mod command;
+pub mod controller;
+pub mod coverage;
+pub mod generator;
+pub mod joysticks;
+pub mod mouse;
+pub mod papers;
+pub mod program;
+pub mod rules;
+pub mod state;
+pub mod text;
+pub mod vectors;

@@ -1,0 +1,134 @@
+//! The sessions that the papers state, with the outputs that they state.
+//!
+//! Sessions are written on one line: `;` parts lines, a space stands for a tab,
+//! bare hex bytes are B lines, `*n` repeats what stands before it. Nothing
+//! after the last `;` is no line. Outputs are `line:bytes` for the lines that
+//! wrote any and `line:(n)` for an answer n that is not 0.
+
+use crate::program::BUFFER;
+
+const TABLE: &str = include_str!("papers.txt");
+
+/// A session and what each of its lines gives.
+#[derive(Clone, Debug, PartialEq, Eq)]
+pub struct Paper {
+    pub title: String,
+    pub lent: usize,
+    pub lines: Vec<String>,
+    pub outputs: Vec<Output>,
+}
+
+/// The answer to a line, and the bytes in hex or `-`.
+#[derive(Clone, Debug, PartialEq, Eq)]
+pub struct Output {
+    pub answer: u8,
+    pub bytes: String,
+}
+
+impl Paper {
+    /// A session and its output, both in the notation of the papers.
+    pub fn new(title: &str, lent: usize, session: &str, output: &str) -> Paper {
+        let lines = lines(session);
+        let outputs = outputs(output, lines.len());
+        Paper {
+            title: title.into(),
+            lent,
+            lines,
+            outputs,
+        }
+    }
+
+    /// The text of the session, each line with its line feed.
+    pub fn text(&self) -> String {
+        self.lines.iter().map(|line| format!("{line}\n")).collect()
+    }
+
+    /// The output as numbered lines.
+    pub fn output_text(&self) -> String {
+        let numbered = (1..).zip(&self.outputs);
+        numbered
+            .map(|(number, output)| format!("{number}\t{}\t{}\n", output.answer, output.bytes))
+            .collect()
+    }
+}
+
+/// Every session of the table: documents first, then the readings.
+pub fn papers() -> Vec<Paper> {
+    TABLE.split("\n\n").map(paper).collect()
+}
+
+/// A title, perhaps a buffer's length, a session and an output, a line each.
+fn paper(block: &str) -> Paper {
+    let rows: Vec<&str> = block.trim_end_matches('\n').split('\n').collect();
+    let (title, lent, session, output) = match rows[..] {
+        [title, session, output] => (title, BUFFER, session, output),
+        [title, buffer, session, output] => {
+            let length = buffer.strip_prefix("buffer ").expect("a buffer's length");
+            (title, length.parse().expect("a number"), session, output)
+        }
+        _ => panic!("not a session: {block}"),
+    };
+    let title = title.strip_prefix("# ").expect("a title");
+    Paper::new(title, lent, session, output)
+}
+
+/// The lines of a session in the notation of the papers.
+pub fn lines(session: &str) -> Vec<String> {
+    let items = session.strip_suffix(';').unwrap_or(session).split(';');
+    items
+        .enumerate()
+        .flat_map(|(index, item)| match index {
+            0 => item_lines(item),
+            _ => item_lines(item.strip_prefix(' ').unwrap_or(item)),
+        })
+        .collect()
+}
+
+fn item_lines(item: &str) -> Vec<String> {
+    let (item, times) = match item.split_once(" *") {
+        Some((item, times)) => (item, times.parse().expect("a number of times")),
+        None => (item, 1),
+    };
+    let once: Vec<String> = if item.split(' ').all(is_hex_byte) {
+        item.split(' ').map(|byte| format!("B\t{byte}")).collect()
+    } else {
+        vec![item.replace(' ', "\t").replace("\\r", "\r")]
+    };
+    vec![once; times].concat()
+}
+
+fn is_hex_byte(word: &str) -> bool {
+    let digit = |byte| matches!(byte, b'0'..=b'9' | b'A'..=b'F');
+    word.len() == 2 && word.bytes().all(digit)
+}
+
+/// What each of `count` lines gives.
+fn outputs(output: &str, count: usize) -> Vec<Output> {
+    let silent = Output {
+        answer: 0,
+        bytes: String::from("-"),
+    };
+    let mut outputs = vec![silent; count];
+    for word in output.split(' ').filter(|&word| word != "(nothing)") {
+        let (line, given) = word.split_once(':').expect("line:bytes");
+        let line: usize = line.parse().expect("a line number");
+        outputs[line - 1] = given_output(given);
+    }
+    outputs
+}
+
+fn given_output(given: &str) -> Output {
+    let answer = given
+        .strip_prefix('(')
+        .and_then(|rest| rest.strip_suffix(')'));
+    match answer {
+        Some(answer) => Output {
+            answer: answer.parse().expect("an answer"),
+            bytes: String::from("-"),
+        },
+        None => Output {
+            answer: 0,
+            bytes: given.into(),
+        },
+    }
+}

@@ -1,0 +1,65 @@
+//! The numbers of document 01 that a deliberately wrong variant changes.
+//! A comparison that finds no difference is worth something only if it finds
+//! these.
+
+/// The numbers by which a state is stepped.
+#[derive(Clone, Copy, Debug, PartialEq, Eq)]
+pub struct Rules {
+    /// How far past its threshold an axis must be to be sent: 0, since "if
+    /// either axis reaches its threshold" is enough.
+    pub past_threshold: i32,
+    /// "a break is the make plus 0x80"
+    pub break_bit: u8,
+    /// "the 128-byte queue"
+    pub queue_limit: usize,
+    /// "February has 29 days when the year divides by 4."
+    pub leap_day: u8,
+    /// "would leave -2,032 to 2,032"
+    pub held_limit: i32,
+}
+
+impl Rules {
+    /// The rules as document 01 states them.
+    pub const DOCUMENT: Rules = Rules {
+        past_threshold: 0,
+        break_bit: 0x80,
+        queue_limit: 128,
+        leap_day: 29,
+        held_limit: 2032,
+    };
+
+    /// Variant `number`, wrong in one place; any other number is the document.
+    pub fn wrong(number: u32) -> Rules {
+        let mut rules = Rules::DOCUMENT;
+        match number {
+            1 => rules.past_threshold = 1,
+            2 => rules.break_bit = 0,
+            3 => rules.queue_limit = 127,
+            4 => rules.leap_day = 28,
+            5 => rules.held_limit = 2031,
+            _ => {}
+        }
+        rules
+    }
+
+    /// The variant that the environment variable `MODEL_WRONG` asks for.
+    pub fn from_environment() -> Rules {
+        let number = std::env::var("MODEL_WRONG").ok();
+        Rules::wrong(number.and_then(|n| n.parse().ok()).unwrap_or(0))
+    }
+
+    /// The byte of a key event.
+    /// "sends its make when down, its break when up"
+    pub fn key(&self, make: u8, down: bool) -> u8 {
+        if down {
+            make
+        } else {
+            make + self.break_bit
+        }
+    }
+
+    /// Adds a make and break pair to `out`.
+    pub fn push_pair(&self, make: u8, out: &mut Vec<u8>) {
+        out.extend_from_slice(&[make, make + self.break_bit]);
+    }
+}

@@ -1,0 +1,188 @@
+//! Sessions with the length of their buffer, and their expected outputs: those
+//! of the papers, resumes with every length of buffer, and bad input in every
+//! mode.
+
+use crate::papers::{lines, papers, Paper};
+use crate::program::Player;
+use crate::rules::Rules;
+
+/// Sessions of one kind, in order.
+pub struct Group {
+    /// What they are, in plain words.
+    pub about: &'static str,
+    pub sessions: Vec<Session>,
+}
+
+pub struct Session {
+    pub title: String,
+    pub lent: usize,
+    pub lines: Vec<String>,
+    /// The output lines.
+    pub output: String,
+}
+
+const FROM_PAPERS: &str = "\
+The papers' own sessions. Every output line is stated by the papers. (Readings \
+58 and 65 stand there with later requests; by document 01 alone their bytes are \
+the same.)";
+
+const SHORT_BUFFERS: &str = "\
+A resume with a buffer of every length from 0 to 20. Paused, three keys go to \
+the queue and three motions of 64 -64 are held; then 88 asks. Due are the \
+queue (3 bytes), two packets (6) and the reply (8): 17 bytes, so a shorter \
+buffer gives 4. Then 11: if 88 was refused, its 9 bytes are due, and a buffer \
+of less than 9 gives 4 again. Last a key, which goes out unless still paused.";
+
+const LONGEST_RESUME: &str = "\
+The most that is ever due: mouse keycode mode with deltas 1, paused, 128 keys, \
+motion held to 2,032 on both axes, then 88: 8,264 bytes. One byte less of \
+buffer gives 4, and 11 then writes the 8,256 bytes before the reply.";
+
+const BAD_INPUT: &str = "\
+Bad input, in each mouse mode with each joystick mode, not paused and paused. \
+Each number of each event is put outside its range, and gives 1. Before it \
+motion is held and, in fire monitoring, three samples are taken; after it come \
+motion, reports and inquiries that show that nothing changed: the packets, \
+pairs or coordinates of motion before and after, the sticks, the samples, the \
+modes. (In the paused sessions 13 stands before the bad event and 11 after it.)";
+
+/// All sessions.
+pub fn groups() -> Vec<Group> {
+    vec![
+        group(FROM_PAPERS, papers()),
+        group(SHORT_BUFFERS, (0..=20).map(short_buffer).collect()),
+        group(LONGEST_RESUME, [8264, 8263].map(longest_resume).to_vec()),
+        Group {
+            about: BAD_INPUT,
+            sessions: bad_input(),
+        },
+    ]
+}
+
+/// Sessions whose whole output is stated.
+fn group(about: &'static str, papers: Vec<Paper>) -> Group {
+    let sessions = papers.into_iter().map(|paper| Session {
+        output: paper.output_text(),
+        title: paper.title,
+        lent: paper.lent,
+        lines: paper.lines,
+    });
+    Group {
+        about,
+        sessions: sessions.collect(),
+    }
+}
+
+/// The output of the model for a session.
+pub fn played(lent: usize, lines: &[String]) -> String {
+    let mut player = Player::new(Rules::DOCUMENT, lent);
+    let mut out = Vec::new();
+    for line in lines {
+        player.play(line.as_bytes(), &mut out);
+    }
+    String::from_utf8(out).expect("text")
+}
+
+fn short_buffer(lent: usize) -> Paper {
+    let session = "13; K 1E 1; K 1F 1; K 1E 0; M 64 -64 *3; 88; 11; K 1E 1";
+    let output = match lent {
+        0..=8 => "8:(4) 9:(4)",
+        9..=16 => "8:(4) 9:1E1F9EF87F80F841C0 10:1E",
+        _ => "8:1E1F9EF87F80F841C0F608000000000000 10:1E",
+    };
+    Paper::new(&format!("buffer {lent}"), lent, session, output)
+}
+
+fn longest_resume(lent: usize) -> Paper {
+    let session = "0A 01 01; 13; K 1E 1 *128; M 64 64 *31; M 48 48; 88; 11";
+    let resumed = ["1E".repeat(128), "4DCD".repeat(2032), "50D0".repeat(2032)].concat();
+    let output = if lent < 8264 {
+        format!("165:(4) 166:{resumed}")
+    } else {
+        format!("165:{resumed}F60A010100000000")
+    };
+    Paper::new(&format!("buffer {lent}"), lent, session, &output)
+}
+
+/// Each number of each event outside its range.
+pub const BAD_EVENTS: [&str; 22] = [
+    "K 00 1",
+    "K 00 0",
+    "K 73 1",
+    "K 73 0",
+    "K FF 1",
+    "M -65 0",
+    "M 65 0",
+    "M 0 -65",
+    "M 0 65",
+    "M 9999 0",
+    "M 0 -9999",
+    "S -1 0 0",
+    "S 2 0 0",
+    "S 0 -1 0",
+    "S 0 16 0",
+    "S 1 16 1",
+    "S 0 0 -1",
+    "S 1 0 2",
+    "F -1",
+    "F 2",
+    "F 9999",
+    "F -9999",
+];
+
+/// A mouse mode, and what shows its state.
+const MOUSE_MODES: [(&str, &str, &str); 3] = [
+    ("relative", "08; 0B 0A 0A", "L 1; L 0"),
+    ("absolute", "09 01 3F 00 C7; 0C 0A 0A", "0D"),
+    ("keycode", "0A 0A 0A", "L 1; L 0"),
+];
+
+/// A joystick mode, what comes before a bad event, and what shows its state.
+const JOYSTICK_MODES: [(&str, &str, &str, &str); 5] = [
+    ("event", "14", "M 5 5", "M 5 5; 16; 07 00; 88 94"),
+    ("interrogation", "15", "M 5 5", "M 5 5; 16; 07 00; 88 94"),
+    ("monitoring", "17 01", "T", "M 5 5; T; 1C"),
+    ("fire monitoring", "18", "F 1 *3", "M 5 5; F 0 *5; 1C"),
+    (
+        "keycode",
+        "19 01 01 01 01 01 01",
+        "M 5 5",
+        "M 5 5; S 0 5 1; S 1 10 1; 88 94",
+    ),
+];
+
+fn bad_input() -> Vec<Session> {
+    let mut sessions = Vec::new();
+    for (mouse, enter_mouse, show_mouse) in MOUSE_MODES {
+        for (sticks, enter_sticks, before, show_sticks) in JOYSTICK_MODES {
+            for paused in [false, true] {
+                let enter = format!("{enter_mouse}; {enter_sticks}; S 0 5 1; S 1 10 1; 07 00");
+                let show = format!("{show_sticks}; {show_mouse}");
+                let lines = bad_input_lines(&enter, before, &show, paused);
+                sessions.push(Session {
+                    title: format!(
+                        "mouse {mouse}, joysticks {sticks}, {}",
+                        if paused { "paused" } else { "not paused" }
+                    ),
+                    lent: 8264,
+                    output: played(8264, &lines),
+                    lines,
+                });
+            }
+        }
+    }
+    sessions
+}
+
+fn bad_input_lines(enter: &str, before: &str, show: &str, paused: bool) -> Vec<String> {
+    let mut session = String::from(enter);
+    for event in BAD_EVENTS {
+        let event = if paused {
+            format!("13; {event}; 11")
+        } else {
+            event.into()
+        };
+        session += &format!("; {before}; {event}; {show}");
+    }
+    lines(&session)
+}

@@ -1,0 +1,77 @@
+//! The sessions made at random are good for a comparison: they are the same for
+//! the same seed, visit everything, and show that the wrong variants are wrong.
+
+use model::coverage::Coverage;
+use model::generator::session;
+use model::program::{session_head, Format, Player, BUFFER};
+use model::rules::Rules;
+
+fn played(session: &[u8], rules: Rules) -> Vec<u8> {
+    let mut player = Player::new(rules, BUFFER);
+    let mut out = Vec::new();
+    for line in session.split_inclusive(|&byte| byte == b'\n') {
+        player.play(line.strip_suffix(b"\n").unwrap_or(line), &mut out);
+    }
+    out
+}
+
+#[test]
+fn the_same_seed_gives_the_same_session() {
+    for format in [Format::Text, Format::Vectors] {
+        assert_eq!(session(7, 5000, format), session(7, 5000, format));
+        assert_ne!(session(7, 5000, format), session(8, 5000, format));
+    }
+}
+
+#[test]
+fn a_session_has_as_many_lines_as_asked() {
+    for format in [Format::Text, Format::Vectors] {
+        for lines in [0, 1, 2, 10, 999] {
+            for seed in 0..20 {
+                let text = session(seed, lines, format);
+                let parts = text.split_inclusive(|&byte| byte == b'\n');
+                assert_eq!(parts.count(), lines);
+            }
+        }
+    }
+}
+
+#[test]
+fn the_buffers_of_the_short_sessions() {
+    let text = session(1, 100_000, Format::Vectors);
+    let heads: Vec<usize> = text
+        .split(|&byte| byte == b'\n')
+        .filter_map(session_head)
+        .collect();
+    for length in (0..=20).chain([8263, 8264]) {
+        assert!(heads.contains(&length));
+    }
+    assert!(heads.len() > 1000);
+}
+
+#[test]
+fn every_answer_and_every_pair_of_modes_is_met() {
+    for format in [Format::Text, Format::Vectors] {
+        let coverage = Coverage::of(&session(1, 300_000, format), format);
+        for answer in [0, 1, 2, 3, 9] {
+            assert!(coverage.answers[answer] > 100);
+        }
+        // A buffer of 8,264 bytes is never too short.
+        assert_eq!(coverage.answers[4] > 100, format == Format::Vectors);
+        assert_eq!(coverage.longest, BUFFER);
+        let pairs = coverage.pairs.as_flattened().as_flattened();
+        assert!(pairs.iter().all(|&lines| lines > 100));
+        let roles = coverage.roles.as_flattened().as_flattened();
+        assert!(roles.iter().all(|&lines| lines > 100));
+    }
+}
+
+#[test]
+fn the_wrong_variants_are_seen() {
+    let text = session(1, 100_000, Format::Text);
+    let right = played(&text, Rules::DOCUMENT);
+    for number in 1..=5 {
+        assert_ne!(played(&text, Rules::wrong(number)), right);
+    }
+    assert_eq!(played(&text, Rules::wrong(0)), right);
+}
