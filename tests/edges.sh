@@ -41,6 +41,16 @@ for ((length = 65525; length <= 65545; length++)); do
 done
 count "input that ends without a line feed at and about the end of a block, in a good line and in a bad one" $status
 
+# The most that is ever due: a full queue, held motion of both axes as key strokes, and a reply.
+{
+    printf 'B\t0A\nB\t01\nB\t01\nB\t13\n'
+    for ((key = 0; key < 128; key++)); do printf 'K\t1E\t1\n'; done
+    for ((turn = 0; turn < 31; turn++)); do printf 'M\t64\t64\n'; done
+    printf 'M\t48\t48\nB\t88\n'
+} >"$room/most"
+as_model "$room/most" && [ "$(target/bin/ikbd <"$room/most" | tail -n 1 | wc -c)" -eq $((6 + 2 * 8264 + 1)) ]
+count "8,264 bytes in one line of output" $?
+
 # The lines have more bytes than the program may have memory.
 long_line() { head -c 20000000 /dev/zero | tr '\0' T; }
 {

@@ -136,7 +136,8 @@ fn stick_told(
     sticks.moved(settings, one, new)
 }
 
-// What an event comes to.
+// What an event comes to. It is long because each kind of event has its arm here, none of them longer than a few fields, so that all
+// of them are seen side by side.
 pub(crate) fn happens(
     input: Input,
     paused: bool,

@@ -6,7 +6,7 @@ ghost use lib.ListN.{length};
 ghost use Rattle.controller.specs.State.{IsState};
 ghost use Rattle.text.specs.Output.{header, line-room};
 use controller::State;
-use text::Session;
+use session::Session;
 
 // How many blocks are read at most: more than any input has, and few enough that a line's number has 64 bits.
 const MOST_BLOCKS: u64 = 140_737_488_355_328;
@@ -84,7 +84,7 @@ fn run(block: &mut [u8], lent: &mut [u8], out: &mut [u8])
     while blocks > 0 {
         let n = read_on(kept, block);
         if n == kept {
-            let end = text::finish(block, kept);
+            let end = session::finish(block, kept);
             answer(session, &block[..end], lent, out);
             return;
         }
@@ -93,7 +93,7 @@ fn run(block: &mut [u8], lent: &mut [u8], out: &mut [u8])
             return;
         }
         session = done.session;
-        kept = text::keep(block, done.used, n);
+        kept = session::keep(block, done.used, n);
         blocks -= 1;
     }
 }

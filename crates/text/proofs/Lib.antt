@@ -8,10 +8,4 @@ pub mod Letters
 pub mod Counting
 pub mod Blocks
 pub mod Shown
-pub mod Playing
-pub mod Ended
-pub mod Feeding
-pub mod Moving
-pub mod Finishing
-pub mod Blockwise
 pub mod Examples

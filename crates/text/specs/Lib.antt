@@ -1,5 +1,3 @@
 pub mod Line
 pub mod Output
 pub mod Fronts
-pub mod Play
-pub mod Session

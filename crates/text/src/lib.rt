@@ -10,17 +10,7 @@ use mouse::Side;
 
 mod figures;
 mod kinds;
-mod lines;
 mod numbers;
-mod session;
-
-pub use lines::Fed;
-pub use lines::Session;
-pub use lines::finish;
-pub use lines::keep;
-pub use lines::line_end;
-pub use session::Played;
-pub use session::play;
 
 // What a line means: an input, or none where the line is bad.
 pub enum Line {

@@ -42,18 +42,36 @@ fn power_up(lent: usize) -> Session
     }
 }
 
-// Whether a line begins a session.
+// Whether a line begins a session: `=`, a tab and one to five decimal digits.
 fn is_head(line: &[u8]) -> bool {
-    if line.len() < 3 {
+    let n = line.len();
+    if n < 3 {
         return false;
     }
-    if line[0] == b'=' {
-        return line[1] == b'\t';
+    if 7 < n {
+        return false;
     }
-    false
+    if line[0] != b'=' {
+        return false;
+    }
+    if line[1] != b'\t' {
+        return false;
+    }
+    let mut i = 2;
+    while i < n {
+        let d = line[i];
+        if d < b'0' {
+            return false;
+        }
+        if b'9' < d {
+            return false;
+        }
+        i += 1;
+    }
+    true
 }
 
-// The number in such a line, up to five digits of it.
+// The number that stands in a line from its third byte on, up to five digits of it.
 fn number_in(line: &[u8]) -> usize {
     let mut value = 0;
     let mut i = 2;
@@ -102,7 +120,7 @@ fn print(session: Session, line: &[u8], lent: &mut [u8], out: &mut [u8]) -> Prin
     }
     let room = smaller(session.lent, lent.len());
     let before = session.state;
-    let played = text::play(before, session.number, line, &mut lent[..room], out);
+    let played = session::play(before, session.number, line, &mut lent[..room], out);
     let after = played.state;
     Printed {
         session: Session {
@@ -127,7 +145,7 @@ fn answer(session: Session, block: &[u8], lent: &mut [u8], out: &mut [u8]) -> An
     let mut now = session;
     let mut from = 0;
     while from < n {
-        let end = text::line_end(block, from);
+        let end = session::line_end(block, from);
         if end == n {
             return Answered {
                 session: now,
@@ -174,7 +192,7 @@ fn run(block: &mut [u8], lent: &mut [u8], out: &mut [u8])
     while blocks > 0 {
         let n = read_on(kept, block);
         if n == kept {
-            let end = text::finish(block, kept);
+            let end = session::finish(block, kept);
             answer(session, &block[..end], lent, out);
             return;
         }
@@ -183,7 +201,7 @@ fn run(block: &mut [u8], lent: &mut [u8], out: &mut [u8])
             return;
         }
         session = done.session;
-        kept = text::keep(block, done.used, n);
+        kept = session::keep(block, done.used, n);
         blocks -= 1;
     }
 }

@@ -1,8 +1,10 @@
-//! A model of the keyboard controller, written from document 01 alone.
+//! A model of the keyboard controller, written from the papers: document 01,
+//! the protocol's text and the readings of them.
 //!
 //! `controller::step` takes one input in a state; `text` reads and writes the
 //! lines of the text program. The rest serves the comparison with another
-//! program: sessions made at random and the sessions that the papers state.
+//! program: sessions made at random, those that the papers state, and those for
+//! sentences of document 01.
 
 pub mod clock;
 pub mod command;

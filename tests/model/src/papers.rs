@@ -1,4 +1,5 @@
-//! The sessions that the papers state, with the outputs that they state.
+//! The sessions that the papers state, with the outputs that they state; and
+//! sessions for sentences of document 01, with outputs worked out by hand.
 //!
 //! Sessions are written on one line: `;` parts lines, a space stands for a tab,
 //! bare hex bytes are B lines, `*n` repeats what stands before it. Nothing
@@ -7,7 +8,8 @@
 
 use crate::program::BUFFER;
 
-const TABLE: &str = include_str!("papers.txt");
+const PAPERS: &str = include_str!("papers.txt");
+const SENTENCES: &str = include_str!("sentences.txt");
 
 /// A session and what each of its lines gives.
 #[derive(Clone, Debug, PartialEq, Eq)]
@@ -52,9 +54,18 @@ impl Paper {
     }
 }
 
-/// Every session of the table: documents first, then the readings.
+/// Every session that the papers state: documents first, then the readings.
 pub fn papers() -> Vec<Paper> {
-    TABLE.split("\n\n").map(paper).collect()
+    table(PAPERS)
+}
+
+/// Every session for a sentence of document 01, which is its title.
+pub fn sentences() -> Vec<Paper> {
+    table(SENTENCES)
+}
+
+fn table(text: &str) -> Vec<Paper> {
+    text.split("\n\n").map(paper).collect()
 }
 
 /// A title, perhaps a buffer's length, a session and an output, a line each.

@@ -2,12 +2,13 @@
 
 use model::clock::Clock;
 use model::controller::{answer_number, step, Input};
-use model::papers::{lines, papers, Paper};
+use model::joysticks::Joysticks;
+use model::papers::{lines, papers, sentences, Paper};
 use model::program::{run, Format, Player, BUFFER};
 use model::rules::Rules;
 use model::state::{JoystickMode, Role, State, Velocity};
 use model::text::{parse, HEADER};
-use model::vectors::{groups, played, BAD_EVENTS};
+use model::vectors::{bad_input, groups, played, BAD_EVENTS};
 
 fn text_program(input: &str, format: Format) -> String {
     let mut output = Vec::new();
@@ -15,15 +16,17 @@ fn text_program(input: &str, format: Format) -> String {
     String::from_utf8(output).expect("text")
 }
 
-/// Every session of the table gives its stated output, line by line.
+/// Every session of the tables gives its stated output, line by line.
 #[test]
 fn every_session_gives_its_stated_output() {
-    let papers = papers();
+    let (papers, sentences) = (papers(), sentences());
     assert_eq!(papers.len(), 17 + 78 + 7);
-    for Paper { title, .. } in papers.iter().filter(|paper| !holds(paper)) {
+    assert_eq!(sentences.len(), 14);
+    let stated = [papers, sentences].concat();
+    for Paper { title, .. } in stated.iter().filter(|paper| !holds(paper)) {
         eprintln!("not as stated: {title}");
     }
-    assert!(papers.iter().all(holds));
+    assert!(stated.iter().all(holds));
 }
 
 fn holds(paper: &Paper) -> bool {
@@ -101,10 +104,9 @@ fn refusals_leave_the_state() {
 #[test]
 fn bad_events_give_1_and_change_nothing() {
     let bad: Vec<String> = BAD_EVENTS.iter().flat_map(|event| lines(event)).collect();
-    let groups = groups();
-    let sessions = &groups.last().unwrap().sessions;
+    let sessions = bad_input();
     assert_eq!(sessions.len(), 30);
-    for session in sessions {
+    for session in &sessions {
         let given: Vec<&str> = session.output.lines().map(after_number).collect();
         let (bad_lines, good_lines): (Vec<_>, Vec<_>) = session
             .lines
@@ -122,6 +124,76 @@ fn bad_events_give_1_and_change_nothing() {
 
 fn after_number(line: &str) -> &str {
     line.split_once('\t').expect("a numbered line").1
+}
+
+/// The state after a session.
+fn after(session: &str) -> State {
+    let mut player = Player::new(Rules::DOCUMENT, BUFFER);
+    for line in lines(session) {
+        player.play(line.as_bytes(), &mut Vec::new());
+    }
+    player.state
+}
+
+/// "0x08, 0x09, 0x0A turn the mouse on, clear held motion, zero the coordinates"
+#[test]
+fn mouse_modes_zero_the_coordinates() {
+    let moved = "09 00 64 00 64; M 5 7";
+    assert_eq!(after(moved).mouse.coordinates, [5, 7]);
+    for command in ["08", "09 00 64 00 64", "0A 01 01"] {
+        let state = after(&format!("{moved}; {command}"));
+        assert_eq!(state.mouse.coordinates, [0, 0]);
+    }
+}
+
+/// "0x12 turns the mouse off and clears held motion."
+#[test]
+fn mouse_off_clears_held_motion() {
+    for mode in ["08", "09 00 64 00 64", "0A 0A 0A"] {
+        let held = format!("{mode}; 0B 0A 0A; 0C 0A 0A; M 5 -5");
+        assert_eq!(after(&held).mouse.held, [5, -5]);
+        assert_eq!(after(&format!("{held}; 12")).mouse.held, [0, 0]);
+    }
+}
+
+/// Whether repeat counts, monitoring ticks and samples are 0.
+fn is_clear(joysticks: Joysticks) -> bool {
+    let Joysticks {
+        mode, on, sticks, ..
+    } = joysticks;
+    let clear = Joysticks {
+        mode,
+        on,
+        sticks,
+        ..Joysticks::POWER_UP
+    };
+    joysticks == clear
+}
+
+/// "0x14, 0x15, 0x17, 0x18, 0x19 turn joysticks on and clear repeat counts,
+/// monitoring ticks and samples"
+#[test]
+fn joystick_modes_clear_counts_ticks_and_samples() {
+    let keycode = "19 01 01 01 01 01 01";
+    let counting = format!("{keycode}; S 0 9 0; T *3");
+    for counted in [&counting, "17 05; T *3", "18; F 1 *3"] {
+        assert!(!is_clear(after(counted).joysticks));
+        for command in ["14", "15", "17 05", "18", keycode] {
+            let state = after(&format!("{counted}; {command}"));
+            assert!(is_clear(state.joysticks));
+        }
+    }
+}
+
+/// "leaving a monitoring mode by another command clears the last two"
+#[test]
+fn leaving_a_monitoring_mode_clears_ticks_and_samples() {
+    for counted in ["17 05; T *3", "18; F 1 *3"] {
+        for command in ["08", "09 00 64 00 64", "0A 01 01", "1A"] {
+            let state = after(&format!("{counted}; {command}"));
+            assert!(is_clear(state.joysticks));
+        }
+    }
 }
 
 /// Reading 22: "A refused tick does not move the clock"
@@ -157,12 +229,9 @@ fn reading_64() {
 /// Reading 65: "neither ticks nor direction changes touch age and wait"
 #[test]
 fn reading_65() {
-    let mut player = Player::new(Rules::DOCUMENT, BUFFER);
-    for line in lines("19 00 00 00 00 01 01; S 0 8 0; T *5; 1A; S 0 4 0; T *10") {
-        player.play(line.as_bytes(), &mut Vec::new());
-    }
-    assert_eq!(player.state.joysticks.age[0], 5);
-    assert_eq!(player.state.joysticks.wait[0], 5);
+    let state = after("19 00 00 00 00 01 01; S 0 8 0; T *5; 1A; S 0 4 0; T *10");
+    assert_eq!(state.joysticks.age[0], 5);
+    assert_eq!(state.joysticks.wait[0], 5);
 }
 
 /// Reading 67: a monitoring mode with joysticks off monitors.

@@ -8,7 +8,7 @@ use lib.Seq.{length-take-le}
 use borrow.Author.Needs.{needs}
 use Rattle.controller.specs.State.{IsState}
 use Rattle.text.specs.Output.{line-room}
-use Rattle.text.proofs.Feeding.{count-within, lines-few, part-used}
+use Rattle.session.proofs.Feeding.{count-within, lines-few, part-used}
 use Rattle.ikbd.proofs.answer.Statement.{statement}
 use Rattle.ikbd.proofs.answer.Tie as tie
 

@@ -8,7 +8,7 @@ use lib.Seq.{length-take-le}
 use borrow.Author.Needs.{needs}
 use Rattle.controller.specs.State.{IsState}
 use Rattle.controller.proofs.States.{power-up-is-state}
-use Rattle.text.specs.declared.lines.Session.{Session}
+use Rattle.session.specs.declared.lines.Session.{Session}
 use Rattle.text.specs.Output.{line-room}
 use Rattle.ikbd.proofs.run.Statement.{statement}
 use Rattle.ikbd.proofs.run.Tie as tie

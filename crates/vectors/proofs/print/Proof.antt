@@ -6,7 +6,7 @@ use mathlib.Core.Path.{sym, subst}
 use lib.ListN.{length, length-take}
 use lib.Seq.{length-take-le}
 use borrow.Author.Needs.{needs}
-use Rattle.text.proofs.Feeding.{wrote-within}
+use Rattle.session.proofs.Feeding.{wrote-within}
 use Rattle.vectors.proofs.print.Statement.{statement}
 use Rattle.vectors.proofs.print.Tie as tie
 
