@@ -11,7 +11,7 @@ use lib.ListN.{length, drop, getD, drop-of-length-le}
 use lib.Seq.{drop-cons}
 use borrow.Author.Tests.{eqb-true, eq-eqb, ne-eqb}
 use Rattle.controller.specs.declared.State.{State}
-use Rattle.text.specs.Fronts.{up-to}
+use Rattle.text.specs.Fronts.{until}
 use Rattle.text.specs.Line.{line-of}
 use Rattle.session.specs.Play.{printed, state-then}
 use Rattle.session.specs.Session.{line-feed, ended-from, rest-from, printout, state-after}
@@ -53,51 +53,51 @@ ended-few p (x ∷ l) = at (eqb x line-feed) (ended-few [] l) (ended-few (p ++ (
 
 -- ---- a line and its line feed
 
-pub ended-line : (p d r : List ℕ) → ended-from p (up-to line-feed d ++ (line-feed ∷ r)) ≡ (p ++ up-to line-feed d) ∷ ended-from [] r
-unfolding up-to ended-from
+pub ended-line : (p d r : List ℕ) → ended-from p (until line-feed d ++ (line-feed ∷ r)) ≡ (p ++ until line-feed d) ∷ ended-from [] r
+unfolding until ended-from
 ended-line p [] r = ap (λ (q : List ℕ). q ∷ ended-from [] r) (sym (append-nil p))
 ended-line p (x ∷ d) r = at (eqb x line-feed) refl (ended-line (p ++ (x ∷ [])) d r)
   where
     at : (t : Bool) → eqb x line-feed ≡ t
-        → ended-from (p ++ (x ∷ [])) (up-to line-feed d ++ (line-feed ∷ r)) ≡ ((p ++ (x ∷ [])) ++ up-to line-feed d) ∷ ended-from [] r
-        → ended-from p (cond t [] (x ∷ up-to line-feed d) ++ (line-feed ∷ r)) ≡ (p ++ cond t [] (x ∷ up-to line-feed d)) ∷ ended-from [] r
+        → ended-from (p ++ (x ∷ [])) (until line-feed d ++ (line-feed ∷ r)) ≡ ((p ++ (x ∷ [])) ++ until line-feed d) ∷ ended-from [] r
+        → ended-from p (cond t [] (x ∷ until line-feed d) ++ (line-feed ∷ r)) ≡ (p ++ cond t [] (x ∷ until line-feed d)) ∷ ended-from [] r
     at true e f = ap (λ (q : List ℕ). q ∷ ended-from [] r) (sym (append-nil p))
     at false e f =
-        ap (λ (t : Bool). cond t (p ∷ ended-from [] (up-to line-feed d ++ (line-feed ∷ r))) (ended-from (p ++ (x ∷ [])) (up-to line-feed d ++ (line-feed ∷ r)))) e
+        ap (λ (t : Bool). cond t (p ∷ ended-from [] (until line-feed d ++ (line-feed ∷ r))) (ended-from (p ++ (x ∷ [])) (until line-feed d ++ (line-feed ∷ r)))) e
         ∙ f
-        ∙ ap (λ (q : List ℕ). q ∷ ended-from [] r) (append-assoc p (x ∷ []) (up-to line-feed d))
+        ∙ ap (λ (q : List ℕ). q ∷ ended-from [] r) (append-assoc p (x ∷ []) (until line-feed d))
 
-pub rest-line : (p d r : List ℕ) → rest-from p (up-to line-feed d ++ (line-feed ∷ r)) ≡ rest-from [] r
-unfolding up-to rest-from
+pub rest-line : (p d r : List ℕ) → rest-from p (until line-feed d ++ (line-feed ∷ r)) ≡ rest-from [] r
+unfolding until rest-from
 rest-line p [] r = refl
 rest-line p (x ∷ d) r = at (eqb x line-feed) refl (rest-line (p ++ (x ∷ [])) d r)
   where
-    at : (t : Bool) → eqb x line-feed ≡ t → rest-from (p ++ (x ∷ [])) (up-to line-feed d ++ (line-feed ∷ r)) ≡ rest-from [] r
-        → rest-from p (cond t [] (x ∷ up-to line-feed d) ++ (line-feed ∷ r)) ≡ rest-from [] r
+    at : (t : Bool) → eqb x line-feed ≡ t → rest-from (p ++ (x ∷ [])) (until line-feed d ++ (line-feed ∷ r)) ≡ rest-from [] r
+        → rest-from p (cond t [] (x ∷ until line-feed d) ++ (line-feed ∷ r)) ≡ rest-from [] r
     at true e f = refl
     at false e f =
-        ap (λ (t : Bool). cond t (rest-from [] (up-to line-feed d ++ (line-feed ∷ r))) (rest-from (p ++ (x ∷ [])) (up-to line-feed d ++ (line-feed ∷ r)))) e ∙ f
+        ap (λ (t : Bool). cond t (rest-from [] (until line-feed d ++ (line-feed ∷ r))) (rest-from (p ++ (x ∷ [])) (until line-feed d ++ (line-feed ∷ r)))) e ∙ f
 
 -- a text without a line feed
-pub none-ended : (p l : List ℕ) → length l ≤ length (up-to line-feed l) → ended-from p l ≡ []
-unfolding up-to ended-from
+pub none-ended : (p l : List ℕ) → length l ≤ length (until line-feed l) → ended-from p l ≡ []
+unfolding until ended-from
 none-ended p [] h = refl
 none-ended p (x ∷ l) h = at (eqb x line-feed) h (none-ended (p ++ (x ∷ [])) l)
   where
-    at : (t : Bool) → suc (length l) ≤ length (cond t [] (x ∷ up-to line-feed l)) → (length l ≤ length (up-to line-feed l) → ended-from (p ++ (x ∷ [])) l ≡ [])
+    at : (t : Bool) → suc (length l) ≤ length (cond t [] (x ∷ until line-feed l)) → (length l ≤ length (until line-feed l) → ended-from (p ++ (x ∷ [])) l ≡ [])
         → cond t (p ∷ ended-from [] l) (ended-from (p ++ (x ∷ [])) l) ≡ []
     at true h f = absurd (omega arith)
     at false h f = f (omega arith)
 
 -- a text with one
-pub line-split : (l : List ℕ) → length (up-to line-feed l) < length l → l ≡ up-to line-feed l ++ (line-feed ∷ drop (suc (length (up-to line-feed l))) l)
-unfolding up-to
+pub line-split : (l : List ℕ) → length (until line-feed l) < length l → l ≡ until line-feed l ++ (line-feed ∷ drop (suc (length (until line-feed l))) l)
+unfolding until
 line-split [] h = absurd (omega arith)
 line-split (x ∷ l) h = at (eqb x line-feed) (eqb-true x line-feed) h (line-split l)
   where
-    at : (t : Bool) → (t ≡ true → x ≡ line-feed) → length (cond t [] (x ∷ up-to line-feed l)) < suc (length l)
-        → (length (up-to line-feed l) < length l → l ≡ up-to line-feed l ++ (line-feed ∷ drop (suc (length (up-to line-feed l))) l))
-        → x ∷ l ≡ cond t [] (x ∷ up-to line-feed l) ++ (line-feed ∷ drop (length (cond t [] (x ∷ up-to line-feed l))) l)
+    at : (t : Bool) → (t ≡ true → x ≡ line-feed) → length (cond t [] (x ∷ until line-feed l)) < suc (length l)
+        → (length (until line-feed l) < length l → l ≡ until line-feed l ++ (line-feed ∷ drop (suc (length (until line-feed l))) l))
+        → x ∷ l ≡ cond t [] (x ∷ until line-feed l) ++ (line-feed ∷ drop (length (cond t [] (x ∷ until line-feed l))) l)
     at true q h f = ap (λ (y : ℕ). y ∷ l) (q refl)
     at false q h f = ap (λ (m : List ℕ). x ∷ m) (f (omega arith))
 
@@ -121,32 +121,32 @@ state-append s lent (l ∷ a) b = state-append (state-then s lent (line-of l)) l
 -- from `from` to `at` there is no line feed
 pub record Passed (t : List ℕ) (from at : ℕ) : Type 0 where
   pub within : at ≤ length t
-  pub as-far : at + length (up-to line-feed (drop at t)) ≡ from + length (up-to line-feed (drop from t))
+  pub as-far : at + length (until line-feed (drop at t)) ≡ from + length (until line-feed (drop from t))
 
 pub passed-start : (t : List ℕ) (from : ℕ) → from ≤ length t → Passed t from from
 passed-start t from h = record { within = h; as-far = refl }
 
 module _ {t : List ℕ} {from at : ℕ} (p : Passed t from at) where
   module _ (h : at < length t) where
-    here : up-to line-feed (drop at t) ≡ cond (eqb (getD t at 0) line-feed) [] (getD t at 0 ∷ up-to line-feed (drop (suc at) t))
-    unfolding up-to
-    here = ap (up-to line-feed) (drop-cons t at 0 h)
+    here : until line-feed (drop at t) ≡ cond (eqb (getD t at 0) line-feed) [] (getD t at 0 ∷ until line-feed (drop (suc at) t))
+    unfolding until
+    here = ap (until line-feed) (drop-cons t at 0 h)
 
-    pub passed-feed : getD t at 0 ≡ line-feed → at ≡ from + length (up-to line-feed (drop from t))
+    pub passed-feed : getD t at 0 ≡ line-feed → at ≡ from + length (until line-feed (drop from t))
     passed-feed e =
-        let none : length (up-to line-feed (drop at t)) ≡ 0 =
-        ap length here ∙ ap (λ (u : Bool). length {A = ℕ} (cond u [] (getD t at 0 ∷ up-to line-feed (drop (suc at) t)))) (eq-eqb (getD t at 0) line-feed e) in
+        let none : length (until line-feed (drop at t)) ≡ 0 =
+        ap length here ∙ ap (λ (u : Bool). length {A = ℕ} (cond u [] (getD t at 0 ∷ until line-feed (drop (suc at) t)))) (eq-eqb (getD t at 0) line-feed e) in
         omega (arith, p .as-far)
 
     pub passed-on : (getD t at 0 ≡ line-feed → ⊥) → Passed t from (at + 1)
     passed-on n =
-        let one : length (up-to line-feed (drop at t)) ≡ suc (length (up-to line-feed (drop (suc at) t))) =
-        ap length here ∙ ap (λ (u : Bool). length {A = ℕ} (cond u [] (getD t at 0 ∷ up-to line-feed (drop (suc at) t)))) (ne-eqb (getD t at 0) line-feed n) in
-        let same : length (up-to line-feed (drop (at + 1) t)) ≡ length (up-to line-feed (drop (suc at) t)) = ap (λ (k : ℕ). length (up-to line-feed (drop k t))) (add-one at) in
+        let one : length (until line-feed (drop at t)) ≡ suc (length (until line-feed (drop (suc at) t))) =
+        ap length here ∙ ap (λ (u : Bool). length {A = ℕ} (cond u [] (getD t at 0 ∷ until line-feed (drop (suc at) t)))) (ne-eqb (getD t at 0) line-feed n) in
+        let same : length (until line-feed (drop (at + 1) t)) ≡ length (until line-feed (drop (suc at) t)) = ap (λ (k : ℕ). length (until line-feed (drop k t))) (add-one at) in
         record { within = omega arith; as-far = omega (arith, p .as-far) }
 
-  pub passed-end : length t ≤ at → length t ≡ from + length (up-to line-feed (drop from t))
-  unfolding up-to
+  pub passed-end : length t ≤ at → length t ≡ from + length (until line-feed (drop from t))
+  unfolding until
   passed-end h =
-      let none : length (up-to line-feed (drop at t)) ≡ 0 = ap (λ (l : List ℕ). length (up-to line-feed l)) (drop-of-length-le t h) in
+      let none : length (until line-feed (drop at t)) ≡ 0 = ap (λ (l : List ℕ). length (until line-feed l)) (drop-of-length-le t h) in
       omega (arith, p .as-far, p .within)

@@ -16,12 +16,12 @@ use Rattle.text.specs.declared.Line.{Line}
 use Rattle.text.specs.declared.Line.the-variants.{Good, Bad}
 use Rattle.session.specs.declared.lines.Session.{Session}
 use Rattle.session.specs.declared.lines.Fed.{Fed}
-use Rattle.text.specs.Fronts.{up-to}
+use Rattle.text.specs.Fronts.{until}
 use Rattle.text.specs.Line.{line-of}
 use Rattle.text.specs.Output.{line-room}
 use Rattle.session.specs.Play.{bad-line, printed, state-then}
 use Rattle.session.specs.Session.{line-feed, ended, rest, ended-from, rest-from, printout, state-after, Feeds}
-use Rattle.text.proofs.Fields.{up-to-most}
+use Rattle.text.proofs.Fields.{until-most}
 use Rattle.text.proofs.Shown.{line-most}
 use Rattle.session.proofs.Ended.{ended-append, rest-append, ended-line, rest-line, ended-few, none-ended, line-split, printout-append, state-append}
 
@@ -32,8 +32,8 @@ printed-most s lent n Bad h = omega (arith, line-most n bad-line [] h)
 printed-most s lent n (Good i) h = omega (arith, line-most n (step s i lent .answer) (step s i lent .written) h, step-fits s i lent)
 
 -- a line ends within its text
-pub line-within : (t : List ℕ) (from : ℕ) → from ≤ length t → from + length (up-to line-feed (drop from t)) ≤ length t
-line-within t from h = omega (arith, up-to-most line-feed (drop from t), length-drop from t)
+pub line-within : (t : List ℕ) (from : ℕ) → from ≤ length t → from + length (until line-feed (drop from t)) ≤ length t
+line-within t from h = omega (arith, until-most line-feed (drop from t), length-drop from t)
 
 -- Where the loop tests: the first `from` bytes of the text are whole lines, and their output is written.
 pub record Reading (s : Session) (lent : ℕ) (t before after : List ℕ) (state : State) (number from at : ℕ) : Type 0 where
@@ -71,25 +71,25 @@ module _ (s : Session) (lent : ℕ) (t before : List ℕ) where
     nothing-yet e = r .wrote .count ∙ ap (λ (k : ℕ). length (printout (s .state) lent (s .number) (ended (take k t)))) e
 
     -- the line that begins at `from` ends at `end`
-    module _ {end : ℕ} (e : end ≡ from + length (up-to line-feed (drop from t))) where
+    module _ {end : ℕ} (e : end ≡ from + length (until line-feed (drop from t))) where
       pub end-within : end ≤ length t
       end-within = omega (arith, line-within t from (r .within))
 
       -- without a line feed, if the text ends there
       pub no-more : length t ≤ end → from ≡ 0 → ended t ≡ []
       no-more h z =
-          let all : length (up-to line-feed (drop from t)) ≡ length (up-to line-feed t) = ap (λ (k : ℕ). length (up-to line-feed (drop k t))) z in
+          let all : length (until line-feed (drop from t)) ≡ length (until line-feed t) = ap (λ (k : ℕ). length (until line-feed (drop k t))) z in
           none-ended [] t (omega arith)
 
       module _ (h : end < length t) where
         abbrev line : List ℕ
-        line = up-to line-feed (drop from t)
+        line = until line-feed (drop from t)
 
         split : drop from t ≡ line ++ (line-feed ∷ drop (suc (length line)) (drop from t))
         split = line-split (drop from t) (rw length-drop (omega arith))
 
         -- as the code lends it
-        pub line-is : take (end - from) (drop from t) ≡ up-to line-feed (drop from t)
+        pub line-is : take (end - from) (drop from t) ≡ until line-feed (drop from t)
         line-is =
             let long : end - from ≡ length line = omega arith in
             ap (λ (k : ℕ). take k (drop from t)) long ∙ ap (take (length line)) split ∙ take-append-seam line _

@@ -4,7 +4,7 @@ ghost use Prim.Native.Nat.{_+_, _≤_, _<_, _^_, min, suc};
 ghost use lib.ListN.{length, take, drop};
 ghost use Rattle.output.specs.Writing.{Wrote};
 ghost use Rattle.controller.specs.State.{IsState};
-ghost use Rattle.text.specs.Fronts.{up-to};
+ghost use Rattle.text.specs.Fronts.{until};
 ghost use Rattle.text.specs.Line.{longest};
 ghost use Rattle.text.specs.Output.{line-room};
 ghost use Rattle.session.specs.Session.{line-feed, cut, finished, at-start, Feeds};
@@ -28,7 +28,7 @@ pub struct Fed {
 // Where the line that begins at `from` ends: the place of its line feed, or the end of the text.
 pub fn line_end(text: &[u8], from: usize) -> usize
     requires { ⌜ from ≤ length (now text) ⌝ }
-    ensures { λ r. ⌜ r ≡ from + length (up-to line-feed (drop from (now (text .entry)))) ⌝ }
+    ensures { λ r. ⌜ r ≡ from + length (until line-feed (drop from (now (text .entry)))) ⌝ }
 {
     let n = text.len();
     let mut at = from;

@@ -16,7 +16,7 @@ use lib.Seq.{drop-cons, drop-length}
 use borrow.Author.Tests.{le-leb, lt-leb, eq-eqb, ne-eqb}
 use Rattle.text.specs.declared.numbers.Digits.the-variants.{Natural, NoNatural}
 use Rattle.text.specs.Line.{tab, digits, value, natural}
-use Rattle.text.specs.Fronts.{up-to, first, digits-read, digits-of}
+use Rattle.text.specs.Fronts.{until, first, digits-read, digits-of}
 
 -- the first i bytes of s are digits, and make v
 pub record Reading (s : List ℕ) (v i : ℕ) : Type 0 where
@@ -44,7 +44,7 @@ unfolding digits-of natural
 no-field s e = rw e refl
 
 pub empty : (s : List ℕ) → length s ≡ 0 → NoNatural ≡ digits-of s
-unfolding digits-of natural up-to
+unfolding digits-of natural until
 empty [] e = refl
 empty (b ∷ s) e = absurd (omega arith)
 
@@ -59,7 +59,7 @@ unread s e = at (leb 1 (length (first s))) (leb (length (first s)) 4)
     at false q = refl
 
 pub ended : (s : List ℕ) (v i : ℕ) → Reading s v i → 1 ≤ i → length s ≤ i → Natural v i ≡ digits-of s
-unfolding up-to
+unfolding until
 ended s v i r h l =
     let w = r .within in
     let e : i ≡ length s = omega arith in
@@ -70,7 +70,7 @@ module _ (s : List ℕ) (v i : ℕ) (r : Reading s v i) (l : i < length s) where
   at-next = rw (add-one i) (drop-cons s i 0 l)
 
   first-ends : getD s i 0 ≡ tab → first (drop i s) ≡ []
-  unfolding up-to
+  unfolding until
   first-ends e = ap first at-next ∙ rw (eq-eqb (getD s i 0) tab e) refl
 
   pub tabbed : 1 ≤ i → getD s i 0 ≡ tab → Natural v i ≡ digits-of s
@@ -78,7 +78,7 @@ module _ (s : List ℕ) (v i : ℕ) (r : Reading s v i) (l : i < length s) where
 
   module _ (n : getD s i 0 ≡ tab → ⊥) where
     first-next : first (drop i s) ≡ getD s i 0 ∷ first (drop (i + 1) s)
-    unfolding up-to
+    unfolding until
     first-next = ap first at-next ∙ rw (ne-eqb (getD s i 0) tab n) refl
 
     pub low : getD s i 0 < code "0" → NoNatural ≡ digits-of s

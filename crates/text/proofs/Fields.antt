@@ -13,23 +13,23 @@ use lib.Seq.{take-length}
 use Rattle.controller.specs.declared.Input.{Input}
 use Rattle.text.specs.declared.Line.the-variants.{Good, Bad}
 use Rattle.text.specs.Line.{tab, lengthened, fields, none-more, one-more, two-more, three-more}
-use Rattle.text.specs.Fronts.{up-to, first}
+use Rattle.text.specs.Fronts.{until, first}
 
-pub up-to-most : (stop : ℕ) (l : List ℕ) → length (up-to stop l) ≤ length l
-unfolding up-to
-up-to-most stop [] = omega arith
-up-to-most stop (b ∷ l) = at (eqb b stop) (up-to-most stop l)
+pub until-most : (stop : ℕ) (l : List ℕ) → length (until stop l) ≤ length l
+unfolding until
+until-most stop [] = omega arith
+until-most stop (b ∷ l) = at (eqb b stop) (until-most stop l)
   where
-    at : (t : Bool) → length (up-to stop l) ≤ length l → length (cond t [] (b ∷ up-to stop l)) ≤ suc (length l)
+    at : (t : Bool) → length (until stop l) ≤ length l → length (cond t [] (b ∷ until stop l)) ≤ suc (length l)
     at true h = omega arith
     at false h = omega arith
 
 pub first-most : (l : List ℕ) → length (first l) ≤ length l
-first-most l = up-to-most tab l
+first-most l = until-most tab l
 
 -- the first field is all there is
 pub only : (l : List ℕ) → length l ≤ length (first l) → fields l ≡ first l ∷ []
-unfolding up-to fields
+unfolding until fields
 only [] h = refl
 only (b ∷ l) h = at (eqb b tab) h (only l)
   where
@@ -39,7 +39,7 @@ only (b ∷ l) h = at (eqb b tab) h (only l)
 
 -- the first field ends at a tab, and the others stand after that
 pub more : (l : List ℕ) → length (first l) < length l → fields l ≡ first l ∷ fields (drop (suc (length (first l))) l)
-unfolding up-to fields
+unfolding until fields
 more [] h = absurd (omega arith)
 more (b ∷ l) h = at (eqb b tab) h (more l)
   where

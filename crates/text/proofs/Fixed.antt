@@ -15,7 +15,7 @@ use borrow.Author.Tests.{lt-ltb, le-ltb, eq-eqb, ne-eqb}
 use Rattle.controller.specs.declared.Input.{Input}
 use Rattle.text.specs.declared.Line.the-variants.{Good, Bad}
 use Rattle.text.specs.Line.{tab, fields, hex-digit, hex, level, one-more, two-more}
-use Rattle.text.specs.Fronts.{up-to, first}
+use Rattle.text.specs.Fronts.{until, first}
 use Rattle.text.proofs.Fields.{one-unread, one-last, two-unread, two-next}
 
 -- ---- down or up, at the end of a line
@@ -70,7 +70,7 @@ front-two (a ∷ b ∷ s) h = refl
 
 module _ (s : List ℕ) (long : 2 ≤ length s) (ends : first (drop 2 s) ≡ []) (h k : ℕ) (p : h ≡ hex-digit (getD s 0 0)) (q : k ≡ hex-digit (getD s 1 0)) where
   first-two : first s ≡ cond (eqb (getD s 0 0) tab) [] (getD s 0 0 ∷ cond (eqb (getD s 1 0) tab) [] (getD s 1 0 ∷ []))
-  unfolding up-to
+  unfolding until
   first-two = ap first (front-two s long) ∙ rw ends refl
 
   unread : (ltb (hex-digit (getD s 0 0)) 16 && ltb (hex-digit (getD s 1 0)) 16) ≡ false → hex (first s) ≡ none
@@ -94,7 +94,7 @@ module _ (s : List ℕ) (long : 2 ≤ length s) (ends : first (drop 2 s) ≡ [])
 
 module _ (make : ℕ → Input) (s : List ℕ) (n : length s ≡ 2) (h : ℕ) (p : h ≡ hex-digit (getD s 0 0)) where
   alone : first (drop 2 s) ≡ []
-  unfolding up-to
+  unfolding until
   alone = ap first (drop-of-length-le s {i = 2} (omega arith))
 
   pub byte-high : 15 < h → Bad ≡ one-more hex make (fields s)
@@ -112,7 +112,7 @@ module _ (make : ℕ → Input) (s : List ℕ) (n : length s ≡ 2) (h : ℕ) (p
 -- ---- two digits, a tab, and down or up
 
 pub key-parted : (make : ℕ → Bool → Input) (s : List ℕ) → length s ≡ 4 → (getD s 2 0 ≡ tab → ⊥) → Bad ≡ two-more hex level make (fields s)
-unfolding up-to hex
+unfolding until hex
 key-parted make [] n t = absurd (omega arith)
 key-parted make (a ∷ []) n t = absurd (omega arith)
 key-parted make (a ∷ b ∷ []) n t = absurd (omega arith)
@@ -125,7 +125,7 @@ key-parted make (a ∷ b ∷ c ∷ s) n t = sym (two-unread hex (a ∷ b ∷ c �
 
 module _ (make : ℕ → Bool → Input) (s : List ℕ) (n : length s ≡ 4) (t : getD s 2 0 ≡ tab) (h : ℕ) (p : h ≡ hex-digit (getD s 0 0)) where
   parted : first (drop 2 s) ≡ []
-  unfolding up-to
+  unfolding until
   parted = ap first (drop-cons s 2 0 (omega arith)) ∙ rw (eq-eqb (getD s 2 0) tab t) refl
 
   pub key-high : 15 < h → Bad ≡ two-more hex level make (fields s)

@@ -22,7 +22,7 @@ use Rattle.text.specs.declared.numbers.Digits.the-variants.{Natural, NoN
 use Rattle.text.specs.declared.numbers.Front.{Front}
 use Rattle.text.specs.declared.numbers.Front.the-variants.{Number, NoNumber}
 use Rattle.text.specs.Line.{tab, digits, value, natural, number}
-use Rattle.text.specs.Fronts.{up-to, first, digits-read, digits-of, number-read, front-of}
+use Rattle.text.specs.Fronts.{until, first, digits-read, digits-of, number-read, front-of}
 use Rattle.text.proofs.Fields.{first-most, rest-of}
 use Rattle.text.proofs.Lengths.{natural-read, mapped}
 
@@ -65,12 +65,12 @@ plain (Natural v n) = Number (pos v) n
 plain NoNatural = NoNumber
 
 pub empty-front : (s : List ℕ) → length s ≡ 0 → NoNumber ≡ front-of s
-unfolding front-of number up-to
+unfolding front-of number until
 empty-front [] e = refl
 empty-front (b ∷ s) e = absurd (omega arith)
 
 minus-is : (b : ℕ) (l : List ℕ) → b ≡ code "-" → minus (digits-of l) ≡ front-of (b ∷ l)
-unfolding digits-of front-of number up-to
+unfolding digits-of front-of number until
 minus-is b l e =
     rw (ne-eqb b tab (omega arith), eq-eqb b (code "-") e) (at (natural (first l)))
   where
@@ -79,7 +79,7 @@ minus-is b l e =
     at (some v) = rw (add-one (length (first l))) refl
 
 plain-is : (b : ℕ) (l : List ℕ) → (b ≡ code "-" → ⊥) → plain (digits-of (b ∷ l)) ≡ front-of (b ∷ l)
-unfolding digits-of front-of number up-to natural
+unfolding digits-of front-of number until natural
 plain-is b l e = tested (eqb b tab)
   where
     at : (n : ℕ) (o : Option ℕ) → plain (digits-read o n) ≡ number-read (Option·map pos o) n

@@ -13,13 +13,13 @@ use Rattle.text.specs.declared.numbers.Front.the-variants.{Number, NoNum
 use Rattle.text.specs.Line.{tab, natural, number}
 
 -- the bytes of a text up to the first one that is `stop`, or all of them
-unfoldable pub up-to : ℕ → List ℕ → List ℕ
-up-to stop [] = []
-up-to stop (b ∷ l) = cond (eqb b stop) [] (b ∷ up-to stop l)
+unfoldable pub until : ℕ → List ℕ → List ℕ
+until stop [] = []
+until stop (b ∷ l) = cond (eqb b stop) [] (b ∷ until stop l)
 
 -- the first of the fields of a text
 abbrev pub first : List ℕ → List ℕ
-first l = up-to tab l
+first l = until tab l
 
 -- the digits that are the first field, and its length
 abbrev pub digits-read : Option ℕ → ℕ → Digits

@@ -82,43 +82,22 @@ add-number c =
 add-from : tie.Need-add-from Inv-loop μ-loop
 add-from c =
     let head = c .before .before .before .before .before .before .before .before .before .before .before .before in
-    let start = head .before .before .before .before .before .before in
     let found = c .before .before .before .before .before .before .before .before .before .before .line-end .ensures in
     let line = c .before .before .before .before .before .before .before .before .before .if1 .left in
     let r = head .loop .inv .0 in
     let e = end-within _ _ _ _ r found in
-    let few = number-most _ _ _ _ r in
-    let most = start .pre .1 .0 in
     omega (arith, line, e)
-
-add-at : tie.Need-add-at Inv-loop μ-loop
-add-at c =
-    let head = c .before .before .before .before .before .before .before .before .before .before .before .before .before in
-    let start = head .before .before .before .before .before .before in
-    let found = c .before .before .before .before .before .before .before .before .before .before .before .line-end .ensures in
-    let line = c .before .before .before .before .before .before .before .before .before .before .if1 .left in
-    let r = head .loop .inv .0 in
-    let e = end-within _ _ _ _ r found in
-    let few = number-most _ _ _ _ r in
-    let most = start .pre .1 .0 in
-    let test = c .before .before .before .before .before .before .before .before .before .before .before .before .loop-test .taken in
-    let room = c .before .before .before .before .before .before .before .before .before .before .before .before .before .before .before .line-room .ensures in
-    let done = c .before .before .before .before .before .before .play in
-    let next = turn _ _ _ _ r found (omega (arith, line, e)) (head .loop .inv .1) (omega (arith, found, line, e, few, most)) (omega (arith, test, room)) (done .ensures .0) (done .ensures .1 .0) (done .ensures .1 .1) in
-    omega (arith, next .room, out-small (head .before .before .before))
 
 loop-less : tie.Need-loop-less Inv-loop μ-loop
 loop-less c =
     let head = c .before .before .before .before .before .before .before .before .before .before .before .before .before in
-    let start = head .before .before .before .before .before .before in
     let found = c .before .before .before .before .before .before .before .before .before .before .before .line-end .ensures in
     let line = c .before .before .before .before .before .before .before .before .before .before .if1 .left in
     let r = head .loop .inv .0 in
     let e = end-within _ _ _ _ r found in
-    let few = number-most _ _ _ _ r in
-    let most = start .pre .1 .0 in
     omega (arith, found, line, e)
 
+-- one line more keeps the invariant, whose room also bounds what is written
 loop-again : tie.Need-loop-again Inv-loop μ-loop
 loop-again c =
     let head = c .before .before .before .before .before .before .before .before .before .before .before .before .before in
@@ -135,6 +114,11 @@ loop-again c =
     let next = turn _ _ _ _ r found (omega (arith, line, e)) (head .loop .inv .1) (omega (arith, found, line, e, few, most)) (omega (arith, test, room)) (done .ensures .0) (done .ensures .1 .0) (done .ensures .1 .1) in
     let as-long = head .loop .inv .1 in
     (next, search needs)
+
+add-at : tie.Need-add-at Inv-loop μ-loop
+add-at c =
+    let head = c .before .before .before .before .before .before .before .before .before .before .before .before .before in
+    omega (arith, loop-again c .0 .room, out-small (head .before .before .before))
 
 same-length-3 : tie.Need-same-length-3 Inv-loop μ-loop
 same-length-3 c = c .before .loop .inv .1
