@@ -25,7 +25,7 @@ use Rattle.controller.specs.Host.{Effect}
 use Rattle.controller.specs.Events.{of-mouse, of-sticks}
 use Rattle.controller.specs.Handing.{HappensAs, of-told}
 
-none-sent : packets-sent nothing-sent ≡ []
+pub none-sent : packets-sent nothing-sent ≡ []
 unfolding packets-sent split arrows pairs
 none-sent = refl
 

@@ -10,3 +10,5 @@ pub mod Tells
 pub mod Hands
 pub mod Hosts
 pub mod Stepping
+pub mod Singly
+pub mod Obeying

@@ -7,7 +7,7 @@ use mathlib.Core.Logic.{⊎-elim}
 use mathlib.Core.Bool.{Bool, true, false, cond, true≢false}
 use mathlib.Core.List.{List, [], _∷_}
 use denote.Enum.Declared.{tagOf}
-use types.Run.{OneOf}
+use types.Run.{OneOf, miss}
 use Rattle.protocol.specs.declared.Meaning.{Meaning}
 use Rattle.protocol.specs.declared.Meaning.the-variants.{Nothing, Memory, Pause, Reset, OfMouse, OfStick, OfOther, Inquire}
 use Rattle.protocol.specs.declared.Command.{Command}
@@ -23,6 +23,7 @@ use Rattle.controller.specs.declared.Input.the-variants.{Byte, Key, Butt
 use Rattle.controller.specs.Host.{Due, silent, acted, reset-due, executes, host-due, reading, paused-now, is-reset, is-pause}
 use Rattle.controller.specs.Events.{event-due}
 use Rattle.controller.specs.Step.{due, IsInput, too-far}
+use Rattle.controller.specs.Alone.{no-byte}
 use Rattle.controller.proofs.Input.{the-type}
 
 -- an input whose kind is not the first is an event
@@ -37,6 +38,27 @@ is-event (Move dx dy) k s = (refl, tt)
 is-event (Joystick which place trigger) k s = (refl, tt)
 is-event (Sample b) k s = (refl, tt)
 is-event Tick k s = (refl, tt)
+
+-- by its kind, whether it is a host byte
+pub a-byte : (i : Input) → OneOf (0 ∷ []) (tagOf the-type i) → no-byte i ≡ false
+unfolding no-byte
+a-byte (Byte b) k = refl
+a-byte (Key code down) k = absurd (miss (0 ∷ []) 1 tt k)
+a-byte (Button side down) k = absurd (miss (0 ∷ []) 2 tt k)
+a-byte (Move dx dy) k = absurd (miss (0 ∷ []) 3 tt k)
+a-byte (Joystick which place trigger) k = absurd (miss (0 ∷ []) 4 tt k)
+a-byte (Sample b) k = absurd (miss (0 ∷ []) 5 tt k)
+a-byte Tick k = absurd (miss (0 ∷ []) 6 tt k)
+
+pub not-a-byte : (i : Input) → OneOf (1 ∷ 2 ∷ 3 ∷ 4 ∷ 5 ∷ 6 ∷ []) (tagOf the-type i) → no-byte i ≡ true
+unfolding no-byte
+not-a-byte (Byte b) k = absurd (miss (1 ∷ 2 ∷ 3 ∷ 4 ∷ 5 ∷ 6 ∷ []) 0 tt k)
+not-a-byte (Key code down) k = refl
+not-a-byte (Button side down) k = refl
+not-a-byte (Move dx dy) k = refl
+not-a-byte (Joystick which place trigger) k = refl
+not-a-byte (Sample b) k = refl
+not-a-byte Tick k = refl
 
 -- and one whose kind is not the fourth is no motion
 pub not-moving : (i : Input) (σ : Settings) (m : Mouse) → OneOf (0 ∷ 1 ∷ 2 ∷ 4 ∷ 5 ∷ 6 ∷ []) (tagOf the-type i) → false ≡ too-far i σ m

@@ -4,3 +4,4 @@ pub mod Events
 pub mod Handing
 pub mod Step
 pub mod Sequences
+pub mod Alone

@@ -1,6 +1,11 @@
+mod alone;
 mod command;
 mod event;
+mod obey;
 mod step;
+
+pub use obey::Obeyed;
+pub use step::emit;
 
 // The controller: its state, what goes in and what comes out of a step.
 ghost use mathlib.Core.Path.{_≡_};

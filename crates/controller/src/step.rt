@@ -23,11 +23,14 @@ use output::Short;
 const VERSION: u8 = 0xF0;
 
 // Held motion that is sent, and then a short run of bytes in the rest of the buffer.
-fn emit(sending: Sending, short: Short, out: &mut [u8]) -> usize
+pub fn emit(sending: Sending, short: Short, out: &mut [u8]) -> usize
     requires { ⌜ short .len ≤ short-room ⌝ }
     requires { ⌜ length (bytes (packets-sent sending)) + short .len ≤ length (now out) ⌝ }
     ensures { λ r. ⌜ Wrote (bytes (packets-sent sending) ++ short-bytes short) r (now (out .entry)) (now (out .exit)) ⌝ }
 {
+    if sending.len() == 0 {
+        return short.write(out);
+    }
     let a = sending.write(out);
     let b = short.write(&mut out[a..]);
     a + b

@@ -4,7 +4,7 @@ use Prim.Native.Nat.{ℕ, _+_, _-_, _≤_}
 use native.Mathlib.Nat.{zero-add, add-sub-cancel-left}
 use native.Mathlib.Omega.{arith}
 use mathlib.Core.Path.{_≡_, refl, sym, ap, _∙_, subst}
-use mathlib.Core.List.{List, [], _++_, append-nil, append-assoc}
+use mathlib.Core.List.{List, [], _∷_, _++_, append-nil, append-assoc}
 use lib.ListN.{length, take, drop, length-append, length-drop}
 use lib.Seq.{paste, sets, sets-eq, drop-append-add, take-append-seam, drop-append-seam, take-length, drop-length, drop-drop, length-take-le}
 use Rattle.output.specs.Writing.{over, Wrote}
@@ -45,6 +45,11 @@ both {a} {b} {l} {X} {Y} {n} {m} p q = record {
   count = simp (p .count, q .count, length-append);
   buffer = rw (q .buffer, p .count, p .buffer) (seam a b l);
 }
+
+-- a first stage that has nothing to write may be left out
+pub second : (a : List ℕ) {b l X : List ℕ} {n : ℕ} → length a ≡ 0 → Wrote b n l X → Wrote (a ++ b) n l X
+second [] e w = w
+second (x ∷ a) e w = absurd (omega arith)
 
 -- nothing written
 pub none : (l : List ℕ) → Wrote [] 0 l l

@@ -12,15 +12,13 @@ use Rattle.controller.specs.declared.State.{State}
 use Rattle.controller.specs.State.{IsState}
 use Rattle.controller.specs.Step.{step}
 use Rattle.controller.proofs.Answers.{step-fits}
-use Rattle.text.specs.declared.Line.{Line}
-use Rattle.text.specs.declared.Line.the-variants.{Good, Bad}
 use Rattle.session.specs.declared.lines.Session.{Session}
 use Rattle.session.specs.declared.lines.Fed.{Fed}
 use Rattle.text.specs.Fronts.{until}
-use Rattle.text.specs.Line.{line-of}
+use Rattle.text.specs.Line.{Line, Good, Bad, line-feed, line-of}
 use Rattle.text.specs.Output.{line-room}
 use Rattle.session.specs.Play.{bad-line, printed, state-then}
-use Rattle.session.specs.Session.{line-feed, ended, rest, ended-from, rest-from, printout, state-after, Feeds}
+use Rattle.session.specs.Session.{ended, rest, ended-from, rest-from, printout, state-after, Feeds}
 use Rattle.text.proofs.Fields.{until-most}
 use Rattle.text.proofs.Shown.{line-most}
 use Rattle.session.proofs.Ended.{ended-append, rest-append, ended-line, rest-line, ended-few, none-ended, line-split, printout-append, state-append}
@@ -88,12 +86,6 @@ module _ (s : Session) (lent : ℕ) (t before : List ℕ) where
         split : drop from t ≡ line ++ (line-feed ∷ drop (suc (length line)) (drop from t))
         split = line-split (drop from t) (rw length-drop (omega arith))
 
-        -- as the code lends it
-        pub line-is : take (end - from) (drop from t) ≡ until line-feed (drop from t)
-        line-is =
-            let long : end - from ≡ length line = omega arith in
-            ap (λ (k : ℕ). take k (drop from t)) long ∙ ap (take (length line)) split ∙ take-append-seam line _
-
         with-line : take (end + 1) t ≡ take from t ++ (line ++ (line-feed ∷ []))
         with-line =
             let far : end + 1 ≡ from + (length line + 1) = omega arith in
@@ -126,24 +118,23 @@ module _ (s : Session) (lent : ℕ) (t before : List ℕ) where
             ∙ ap (λ (l : List ℕ). printout (s .state) lent (s .number) (ended (take from t)) ++ l)
             (append-nil _ ∙ (λ i. printed (sym (r .state-is) i) lent (sym (r .number-is) i) (line-of line)))
 
-        -- one line more, with what `play` gave
+        -- one line more, printed and taken
         pub turn : {Y : List ℕ} {next : State} {lent-now count : ℕ} → lent-now ≡ lent → number < 2 ^ 64 → line-room lent ≤ length after - at
-            → Wrote (printed state lent-now number (line-of (take (end - from) (drop from t)))) count (take (length after - at) (drop at after)) Y
-            → next ≡ state-then state lent-now (line-of (take (end - from) (drop from t))) → IsState next
+            → Wrote (printed state lent-now number (line-of line)) count (take (length after - at) (drop at after)) Y
+            → next ≡ state-then state lent-now (line-of line) → IsState next
             → Reading s lent t before (take at after ++ (Y ++ drop (length after - at) (drop at after))) next (number + 1) (end + 1) (at + count)
         unfolding state-after
         turn {Y} {next} {lent-now} {count} el small room w n k =
-            let is : line-of (take (end - from) (drop from t)) ≡ line-of line = ap line-of line-is in
-            let b = both (r .wrote) (subst (λ (m : ℕ). Wrote (printed state m number (line-of (take (end - from) (drop from t)))) count (take (length after - at) (drop at after)) Y) el w) in
+            let b = both (r .wrote) (subst (λ (m : ℕ). Wrote (printed state m number (line-of line)) count (take (length after - at) (drop at after)) Y) el w) in
             let fits : count ≤ line-room lent =
-            omega (arith, w .count, printed-most state lent-now number (line-of (take (end - from) (drop from t))) small) in
+            omega (arith, w .count, printed-most state lent-now number (line-of line) small) in
             record {
               within = omega arith;
               whole = whole-then;
-              wrote = subst (λ (l : List ℕ). Wrote l (at + count) before (take at after ++ (Y ++ drop (length after - at) (drop at after)))) (ap (λ (x : Line). printout (s .state) lent (s .number) (ended (take from t)) ++ printed state lent number x) is ∙ sym printed-then) b;
+              wrote = subst (λ (l : List ℕ). Wrote l (at + count) before (take at after ++ (Y ++ drop (length after - at) (drop at after)))) (sym printed-then) b;
               state-is =
                   n
-                  ∙ (λ i. state-then (r .state-is i) (el i) (is i))
+                  ∙ (λ i. state-then (r .state-is i) (el i) (line-of line))
                   ∙ sym (state-append (s .state) lent (ended (take from t)) (line ∷ []))
                   ∙ ap (state-after (s .state) lent) (sym lines-then);
               number-is = omega (arith, r .number-is, ap length lines-then, length-append (ended (take from t)) (line ∷ []));

@@ -5,12 +5,14 @@ ghost use lib.ListN.{length, take, drop};
 ghost use Rattle.output.specs.Writing.{Wrote};
 ghost use Rattle.controller.specs.State.{IsState};
 ghost use Rattle.text.specs.Fronts.{until};
-ghost use Rattle.text.specs.Line.{longest};
+ghost use Rattle.text.specs.Line.{line-feed, longest};
 ghost use Rattle.text.specs.Output.{line-room};
-ghost use Rattle.session.specs.Session.{line-feed, cut, finished, at-start, Feeds};
-use crate::play;
+ghost use Rattle.session.specs.Session.{cut, finished, at-start, Feeds};
+use crate::BAD_LINE;
+use crate::TAKEN;
+use controller::Input;
 use controller::State;
-use text::Line;
+use text::Read;
 
 // A session between two lines: the state, and the number of the next line.
 pub struct Session {
@@ -52,7 +54,12 @@ impl Session {
     }
 
     // The lines that end in a text, one after the other, until there is no room for the output line of the next. What stands in
-    // `lent` afterwards is left free: the step writes there what it sends, and nobody reads it again.
+    // `lent` afterwards is left free: what is sent is written there, and nobody reads it again.
+    //
+    // It is long because only the function that holds a state can change it where it stands: the step takes the whole state and hands
+    // it back, queue and all. Where an input leaves queue and pause alone, what it changes is put in its place here: ticks, keys, motion
+    // and host bytes, which are most of a session, have an arm each, and the other events one together. What is left goes to the step.
+    // Each arm is proved to do what the step does; without it the step would answer, and more slowly.
     pub fn feed(self, text: &[u8], lent: &mut [u8], out: &mut [u8]) -> Fed
         requires { ⌜ IsState (self .state) ⌝ }
         requires { ⌜ self .number + length (now text) < 2 ^ 64 ⌝ }
@@ -66,22 +73,138 @@ impl Session {
         let mut from = 0;
         let mut at = 0;
         while room <= out.len() - at {
-            let end = line_end(text, from);
-            if end == n {
-                return Fed {
-                    session: Session {
-                        state: state,
-                        number: number,
-                    },
-                    used: from,
-                    count: at,
-                };
+            let read = text::read_line(&text[from..]);
+            let Read::Whole { input, len } = read else {
+                let end = line_end(text, from);
+                if end == n {
+                    return Fed {
+                        session: Session {
+                            state: state,
+                            number: number,
+                        },
+                        used: from,
+                        count: at,
+                    };
+                }
+                at += text::write_line(number, BAD_LINE, lent, 0, &mut out[at..]);
+                number += 1;
+                from = end + 1;
+                continue;
+            };
+            let end = from + len;
+            let kind = input;
+            match kind {
+                Input::Tick => {
+                    if state.ticks_alone() {
+                        let clock = state.clock;
+                        let later = clock.tick();
+                        state.clock = later;
+                        at += text::write_line(number, TAKEN, lent, 0, &mut out[at..]);
+                        number += 1;
+                        from = end + 1;
+                        continue;
+                    }
+                }
+                Input::Key { code, down } => {
+                    if state.passes_key(code) {
+                        if 0 < lent.len() {
+                            lent[0] = output::code_sent(code, down);
+                            at += text::write_line(number, TAKEN, lent, 1, &mut out[at..]);
+                            number += 1;
+                            from = end + 1;
+                            continue;
+                        }
+                    }
+                }
+                Input::Move { dx, dy } => {
+                    if state.sends_at_once(input) {
+                        let settings = state.settings;
+                        let mouse = state.mouse;
+                        let moved = mouse.moves(false, settings, dx, dy);
+                        let sending = moved.sending;
+                        if sending.len() <= lent.len() {
+                            let sent = sending.write(lent);
+                            let pointer = moved.mouse;
+                            state.mouse = pointer;
+                            at += text::write_line(number, TAKEN, lent, sent, &mut out[at..]);
+                            number += 1;
+                            from = end + 1;
+                            continue;
+                        }
+                    }
+                }
+                Input::Byte(b) => {
+                    let half = state.command;
+                    let got = half.feed(b);
+                    if !got.whole {
+                        let command = got.command;
+                        state.command = command;
+                        at += text::write_line(number, TAKEN, lent, 0, &mut out[at..]);
+                        number += 1;
+                        from = end + 1;
+                        continue;
+                    }
+                    let obeyed = state.obeys(got);
+                    let short = obeyed.short;
+                    if obeyed.alone {
+                        if short.len <= lent.len() {
+                            let sent = short.write(lent);
+                            let command = got.command;
+                            let settings = obeyed.settings;
+                            let mouse = obeyed.mouse;
+                            let sticks = obeyed.sticks;
+                            let clock = obeyed.clock;
+                            state.command = command;
+                            state.settings = settings;
+                            state.mouse = mouse;
+                            state.sticks = sticks;
+                            state.clock = clock;
+                            at += text::write_line(number, TAKEN, lent, sent, &mut out[at..]);
+                            number += 1;
+                            from = end + 1;
+                            continue;
+                        }
+                    }
+                    let done = state.step(input, lent);
+                    let answer = done.answer;
+                    state = done.state;
+                    at += text::write_line(
+                        number,
+                        answer.number(),
+                        lent,
+                        done.count,
+                        &mut out[at..],
+                    );
+                    number += 1;
+                    from = end + 1;
+                    continue;
+                }
+                _ => {}
             }
-            let played = play(state, number, &text[from..end], lent, &mut out[at..]);
-            state = played.state;
+            if state.sends_at_once(input) {
+                let came = state.comes_to(input);
+                let sending = came.sending;
+                let short = came.short;
+                if sending.len() + short.len <= lent.len() {
+                    let sent = controller::emit(sending, short, lent);
+                    let mouse = came.mouse;
+                    let sticks = came.sticks;
+                    let clock = came.clock;
+                    state.mouse = mouse;
+                    state.sticks = sticks;
+                    state.clock = clock;
+                    at += text::write_line(number, TAKEN, lent, sent, &mut out[at..]);
+                    number += 1;
+                    from = end + 1;
+                    continue;
+                }
+            }
+            let done = state.step(input, lent);
+            let answer = done.answer;
+            state = done.state;
+            at += text::write_line(number, answer.number(), lent, done.count, &mut out[at..]);
             number += 1;
             from = end + 1;
-            at += played.count;
         }
         Fed {
             session: Session {
@@ -98,10 +221,10 @@ impl Session {
 fn enough_of(n: usize) -> usize
     ensures { λ r. ⌜ r ≡ min n (suc longest) ⌝ }
 {
-    if n <= Line::LONGEST {
+    if n <= Read::LONGEST {
         return n;
     }
-    Line::LONGEST + 1
+    Read::LONGEST + 1
 }
 
 // The line that has not ended yet, from `from` to `n`, goes to the start of the block, where the next bytes follow it. One byte more

@@ -11,8 +11,7 @@ use lib.Dec.{eqb}
 use lib.ListN.{length, take, drop, length-drop}
 use lib.Seq.{take-length}
 use Rattle.controller.specs.declared.Input.{Input}
-use Rattle.text.specs.declared.Line.the-variants.{Good, Bad}
-use Rattle.text.specs.Line.{tab, lengthened, fields, none-more, one-more, two-more, three-more}
+use Rattle.text.specs.Line.{Good, Bad, tab, lengthened, fields, none-more, one-more, two-more}
 use Rattle.text.specs.Fronts.{until, first}
 
 pub until-most : (stop : ℕ) (l : List ℕ) → length (until stop l) ≤ length l
@@ -23,9 +22,6 @@ until-most stop (b ∷ l) = at (eqb b stop) (until-most stop l)
     at : (t : Bool) → length (until stop l) ≤ length l → length (cond t [] (b ∷ until stop l)) ≤ suc (length l)
     at true h = omega arith
     at false h = omega arith
-
-pub first-most : (l : List ℕ) → length (first l) ≤ length l
-first-most l = until-most tab l
 
 -- the first field is all there is
 pub only : (l : List ℕ) → length l ≤ length (first l) → fields l ≡ first l ∷ []
@@ -72,26 +68,9 @@ module _ {A : Type 0} (a : List ℕ → Option A) (l : List ℕ) where
     pub two-unread : {B : Type 0} (b : List ℕ → Option B) (make : A → B → Input) → two-more a b make (fields l) ≡ Bad
     two-unread b make = whatever l (λ (fs : List (List ℕ)). two-more a b make fs ≡ Bad) (λ fs. rw e refl)
 
-    pub three-unread : {B C : Type 0} (b : List ℕ → Option B) (c : List ℕ → Option C) (make : A → B → C → Input) → three-more a b c make (fields l) ≡ Bad
-    three-unread b c make = whatever l (λ (fs : List (List ℕ)). three-more a b c make fs ≡ Bad) (λ fs. rw e refl)
-
   module _ (x : A) (e : a (first l) ≡ some x) where
-    module _ (h : length l ≤ length (first l)) where
-      pub one-last : (make : A → Input) → one-more a make (fields l) ≡ Good (make x)
-      one-last make = rw (only l h, e) refl
+    pub one-last : length l ≤ length (first l) → (make : A → Input) → one-more a make (fields l) ≡ Good (make x)
+    one-last h make = rw (only l h, e) refl
 
-      pub two-last : {B : Type 0} (b : List ℕ → Option B) (make : A → B → Input) → two-more a b make (fields l) ≡ Bad
-      two-last b make = rw (only l h, e) refl
-
-      pub three-last : {B C : Type 0} (b : List ℕ → Option B) (c : List ℕ → Option C) (make : A → B → C → Input) → three-more a b c make (fields l) ≡ Bad
-      three-last b c make = rw (only l h, e) refl
-
-    module _ (h : length (first l) < length l) where
-      pub one-next : (make : A → Input) → one-more a make (fields l) ≡ Bad
-      one-next make = rw (more l h, e) (none-after (make x) (drop (suc (length (first l))) l))
-
-      pub two-next : {B : Type 0} (b : List ℕ → Option B) (make : A → B → Input) → two-more a b make (fields l) ≡ one-more b (make x) (fields (drop (suc (length (first l))) l))
-      two-next b make = rw (more l h, e) refl
-
-      pub three-next : {B C : Type 0} (b : List ℕ → Option B) (c : List ℕ → Option C) (make : A → B → C → Input) → three-more a b c make (fields l) ≡ two-more b c (make x) (fields (drop (suc (length (first l))) l))
-      three-next b c make = rw (more l h, e) refl
+    pub two-next : length (first l) < length l → {B : Type 0} (b : List ℕ → Option B) (make : A → B → Input) → two-more a b make (fields l) ≡ one-more b (make x) (fields (drop (suc (length (first l))) l))
+    two-next h b make = rw (more l h, e) refl

@@ -16,9 +16,7 @@ use borrow.Author.Tests.{leb-true}
 use Rattle.mouse.specs.declared.Side.the-variants.{Left, Right}
 use Rattle.controller.specs.declared.Input.{Input}
 use Rattle.controller.specs.declared.Input.the-variants.{Byte, Key, Button, Move, Joystick, Sample, Tick}
-use Rattle.text.specs.declared.Line.{Line}
-use Rattle.text.specs.declared.Line.the-variants.{Bad}
-use Rattle.text.specs.Line.{tab, lengthened, fields, hex, digits, value, natural, number, level, with, none-more, one-more, two-more, three-more, kind, meaning, line-of, longest}
+use Rattle.text.specs.Line.{Line, Bad, tab, lengthened, fields, hex, digits, value, natural, minus, number, level, with, none-more, one-more, two-more, three-more, kind, meaning, line-of, longest}
 
 -- ---- fields and the tabs between them
 
@@ -69,17 +67,17 @@ level-sized = record { bounds = at }
     at (b ∷ c ∷ f) x e = never x e
 
 -- digits that are read
-pub record Read (f : List ℕ) (v : ℕ) : Type 0 where
+pub record DigitsRead (f : List ℕ) (v : ℕ) : Type 0 where
   pub some-bytes : 1 ≤ length f
   pub few : length f ≤ 4
   pub all : digits f ≡ true
   pub worth : value 0 f ≡ v
 
-pub natural-read : (f : List ℕ) (v : ℕ) → natural f ≡ some v → Read f v
+pub natural-read : (f : List ℕ) (v : ℕ) → natural f ≡ some v → DigitsRead f v
 unfolding natural
 natural-read f v = at (leb 1 (length f)) (leb (length f) 4) (digits f) (λ e. e) (λ e. e) (λ e. e)
   where
-    at : (s t d : Bool) → (s ≡ true → leb 1 (length f) ≡ true) → (t ≡ true → leb (length f) 4 ≡ true) → (d ≡ true → digits f ≡ true) → cond (s && t && d) (some (value 0 f)) none ≡ some v → Read f v
+    at : (s t d : Bool) → (s ≡ true → leb 1 (length f) ≡ true) → (t ≡ true → leb (length f) 4 ≡ true) → (d ≡ true → digits f ≡ true) → cond (s && t && d) (some (value 0 f)) none ≡ some v → DigitsRead f v
     at false t d p q r e = never v e
     at true false d p q r e = never v e
     at true true false p q r e = never v e
@@ -105,11 +103,11 @@ number-sized = record { bounds = at }
 
     at : (f : List ℕ) (z : ℤ) → number f ≡ some z → (1 ≤ length f) × (length f ≤ 5)
     at [] z e = never z e
-    at (b ∷ f) z e = tested b f z (eqb b (code "-")) e
+    at (b ∷ f) z e = tested b f z (eqb b minus) e
 
 -- ---- a length that does not fit makes a line bad
 
-with-bad : {A : Type 0} (o : Option A) (make : A → Line) → ((x : A) → o ≡ some x → make x ≡ Bad) → with o make ≡ Bad
+pub with-bad : {A : Type 0} (o : Option A) (make : A → Line) → ((x : A) → o ≡ some x → make x ≡ Bad) → with o make ≡ Bad
 with-bad none make h = refl
 with-bad (some x) make h = h x refl
 

@@ -1,10 +1,12 @@
 pub mod Fields
+pub mod FirstLines
 pub mod Lengths
 pub mod Decimals
 pub mod Signs
 pub mod Fronts
 pub mod Fixed
 pub mod Letters
+pub mod Readings
 pub mod Counting
 pub mod Blocks
 pub mod Shown

@@ -1,3 +1,4 @@
 pub mod Line
-pub mod Output
 pub mod Fronts
+pub mod Reading
+pub mod Output

@@ -11,8 +11,15 @@ use lib.IntN.{ℤ, pos, negℤ}
 use Rattle.mouse.specs.declared.Side.the-variants.{Left, Right}
 use Rattle.controller.specs.declared.Input.{Input}
 use Rattle.controller.specs.declared.Input.the-variants.{Byte, Key, Button, Move, Joystick, Sample, Tick}
-use Rattle.text.specs.declared.Line.{Line}
-use Rattle.text.specs.declared.Line.the-variants.{Good, Bad}
+
+-- what a line means: an input, or none where it is bad
+pub data Line : Type 0 where
+  Good : Input → Line
+  Bad : Line
+
+-- what ends a line
+abbrev pub line-feed : ℕ
+line-feed = code "\n"
 
 -- what parts the fields of a line
 abbrev pub tab : ℕ
@@ -55,10 +62,14 @@ value v (b ∷ l) = value (v * 10 + (b - code "0")) l
 unfoldable pub natural : List ℕ → Option ℕ
 natural f = cond (leb 1 (length f) && leb (length f) 4 && digits f) (some (value 0 f)) none
 
+-- what stands before the digits of a number below 0
+abbrev pub minus : ℕ
+minus = code "-"
+
 -- "other numbers an optional minus and 1 to 4 decimal digits"
 unfoldable pub number : List ℕ → Option ℤ
 number [] = none
-number (b ∷ f) = cond (eqb b (code "-")) (Option·map (λ n. negℤ (pos n)) (natural f)) (Option·map pos (natural (b ∷ f)))
+number (b ∷ f) = cond (eqb b minus) (Option·map (λ n. negℤ (pos n)) (natural f)) (Option·map pos (natural (b ∷ f)))
 
 -- "the last field of K, L and R is 0 or 1": that byte alone, 1 for down
 unfoldable pub level : List ℕ → Option Bool

@@ -3,7 +3,8 @@ ghost use mathlib.Core.Path.{_≡_};
 ghost use Prim.Native.Nat.{_≤_, _<_, _^_};
 ghost use lib.ListN.{length, take};
 ghost use Rattle.output.specs.Writing.{Wrote};
-ghost use Rattle.text.specs.Line.{line-of, longest};
+ghost use Rattle.text.specs.Line.{longest};
+ghost use Rattle.text.specs.Reading.{read-of};
 ghost use Rattle.text.specs.Output.{header, output-line, line-room};
 use controller::Input;
 use mouse::Side;
@@ -12,20 +13,21 @@ mod figures;
 mod kinds;
 mod numbers;
 
-// What a line means: an input, or none where the line is bad.
-pub enum Line {
-    Good(Input),
-    Bad,
+// What is read at the front of a text: a good line, of `len` bytes and the line feed that ends it, or none. Whoever is told that there
+// is none looks for the line feed: the line is bad where there is one, and has not ended where there is none.
+pub enum Read {
+    Whole { input: Input, len: usize },
+    Unread,
 }
 
-impl Line {
+impl Read {
     // The most bytes of a good line: a longer one may be cut anywhere past them.
     pub const LONGEST: usize = 19;
 
     pub fn longest() -> usize
         ensures { λ r. ⌜ r ≡ longest ⌝ }
     {
-        Line::LONGEST
+        Read::LONGEST
     }
 }
 
@@ -40,28 +42,28 @@ pub fn line_room(n: usize) -> usize
     2 * n + LINE_REST
 }
 
-// What a line means, given without its line feed.
-pub fn read_line(line: &[u8]) -> Line
-    ensures { λ r. ⌜ r ≡ line-of (now (line .entry)) ⌝ }
+// The line at the front of a text. It is read up to its line feed in one go, which is not looked for first.
+pub fn read_line(text: &[u8]) -> Read
+    ensures { λ r. ⌜ r ≡ read-of (now (text .entry)) ⌝ }
 {
-    let n = line.len();
-    if Line::LONGEST < n {
-        return Line::Bad;
+    if text.len() < 2 {
+        return Read::Unread;
     }
-    if n == 0 {
-        return Line::Bad;
-    }
-    let kind = line[0];
-    if n == 1 {
+    let kind = text[0];
+    let second = text[1];
+    if second == b'\n' {
         if kind == b'T' {
-            return Line::Good(Input::Tick);
+            return Read::Whole {
+                input: Input::Tick,
+                len: 1,
+            };
         }
-        return Line::Bad;
+        return Read::Unread;
     }
-    if line[1] != b'\t' {
-        return Line::Bad;
+    if second != b'\t' {
+        return Read::Unread;
     }
-    let rest = &line[2..];
+    let rest = &text[2..];
     match kind {
         b'B' => kinds::byte_line(rest),
         b'K' => kinds::key_line(rest),
@@ -70,7 +72,7 @@ pub fn read_line(line: &[u8]) -> Line
         b'M' => kinds::motion_line(rest),
         b'S' => kinds::stick_line(rest),
         b'F' => kinds::sample_line(rest),
-        _ => Line::Bad,
+        _ => Read::Unread,
     }
 }
 

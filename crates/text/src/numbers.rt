@@ -1,6 +1,7 @@
-// Numbers in a line: hexadecimal digits, and the number that is the first field of a text.
+// Numbers in a line: hexadecimal digits, and the number that is the first field of a text, up to the tab or the line feed that ends it.
+ghost use Prim.Native.Nat.{_<_};
 ghost use mathlib.Core.Path.{_≡_};
-ghost use Rattle.text.specs.Line.{hex-digit};
+ghost use Rattle.text.specs.Line.{hex-digit, minus};
 ghost use Rattle.text.specs.Fronts.{digits-of, front-of};
 
 // The digits that are the first field of a text: the number that they make, and the field's length.
@@ -34,9 +35,11 @@ pub(crate) fn hex_digit(b: u8) -> u8
     16
 }
 
-// The first byte is tested by itself, so that the loop need not ask whether there was a digit.
-fn first_digits(s: &[u8]) -> Digits
-    ensures { λ r. ⌜ r ≡ digits-of (now (s .entry)) ⌝ }
+// The digits up to `stop`, at which the field ends. The first byte is tested by itself, so that the loop need not ask whether there
+// was a digit.
+fn first_digits(s: &[u8], stop: u8) -> Digits
+    requires { ⌜ stop < minus ⌝ }
+    ensures { λ r. ⌜ r ≡ digits-of stop (now (s .entry)) ⌝ }
 {
     let n = s.len();
     if n == 0 {
@@ -53,7 +56,7 @@ fn first_digits(s: &[u8]) -> Digits
     let mut i = 1;
     while i < n {
         let d = s[i];
-        if d == b'\t' {
+        if d == stop {
             return Digits::Natural { value, len: i };
         }
         if d < b'0' {
@@ -68,18 +71,19 @@ fn first_digits(s: &[u8]) -> Digits
         value = value * 10 + (d - b'0') as u16;
         i += 1;
     }
-    Digits::Natural { value, len: i }
+    Digits::NoNatural
 }
 
 // An optional minus, and the digits.
-pub(crate) fn first_number(s: &[u8]) -> Front
-    ensures { λ r. ⌜ r ≡ front-of (now (s .entry)) ⌝ }
+pub(crate) fn first_number(s: &[u8], stop: u8) -> Front
+    requires { ⌜ stop < minus ⌝ }
+    ensures { λ r. ⌜ r ≡ front-of stop (now (s .entry)) ⌝ }
 {
     if s.len() == 0 {
         return Front::NoNumber;
     }
     if s[0] == b'-' {
-        match first_digits(&s[1..]) {
+        match first_digits(&s[1..], stop) {
             Digits::Natural { value, len } => {
                 let n = value as i16;
                 Front::Number {
@@ -90,7 +94,7 @@ pub(crate) fn first_number(s: &[u8]) -> Front
             Digits::NoNatural => Front::NoNumber,
         }
     } else {
-        match first_digits(s) {
+        match first_digits(s, stop) {
             Digits::Natural { value, len } => Front::Number {
                 value: value as i16,
                 len,

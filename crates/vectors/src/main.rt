@@ -5,6 +5,7 @@ ghost use mathlib.Core.Path.{_≡_};
 ghost use Prim.Native.Nat.{_+_, _≤_, _<_, _^_};
 ghost use lib.ListN.{length};
 ghost use Rattle.controller.specs.State.{IsState};
+ghost use Rattle.text.specs.Reading.{first-line};
 ghost use Rattle.text.specs.Output.{line-room};
 use controller::State;
 
@@ -98,8 +99,9 @@ fn smaller(a: usize, b: usize) -> usize
     if a < b { a } else { b }
 }
 
-// One line, given without its line feed.
-fn print(session: Session, line: &[u8], lent: &mut [u8], out: &mut [u8]) -> Printed
+// The line at the front of a text, of `n` bytes and a line feed.
+fn print(session: Session, text: &[u8], n: usize, lent: &mut [u8], out: &mut [u8]) -> Printed
+    requires { ⌜ (n ≡ length (first-line (now text))) × (n < length (now text)) ⌝ }
     requires { ⌜ IsState (session .state) ⌝ }
     requires { ⌜ session .number + 1 < 2 ^ 64 ⌝ }
     requires { ⌜ line-room (length (now lent)) ≤ length (now out) ⌝ }
@@ -107,7 +109,7 @@ fn print(session: Session, line: &[u8], lent: &mut [u8], out: &mut [u8]) -> Prin
     ensures { λ r. ⌜ r .session .number ≤ session .number + 1 ⌝ }
     ensures { λ r. ⌜ r .count ≤ length (now (out .entry)) ⌝ }
 {
-    let n = line.len();
+    let line = &text[..n];
     if is_head(line) {
         if n < out.len() {
             output::copy(line, n, out);
@@ -120,7 +122,7 @@ fn print(session: Session, line: &[u8], lent: &mut [u8], out: &mut [u8]) -> Prin
     }
     let room = smaller(session.lent, lent.len());
     let before = session.state;
-    let played = session::play(before, session.number, line, &mut lent[..room], out);
+    let played = session::play(before, session.number, text, &mut lent[..room], out);
     let after = played.state;
     Printed {
         session: Session {
@@ -153,7 +155,7 @@ fn answer(session: Session, block: &[u8], lent: &mut [u8], out: &mut [u8]) -> An
                 written: true,
             };
         }
-        let printed = print(now, &block[from..end], lent, out);
+        let printed = print(now, &block[from..], end - from, lent, out);
         if !io::write_all(1, &out[..printed.count]) {
             return Answered {
                 session: now,

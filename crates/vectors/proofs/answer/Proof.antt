@@ -1,13 +1,17 @@
 -- `vectors::answer` meets its contract. The loop's invariant: the session goes on behind the first `from` bytes.
 -- Assumes what the kit's libraries assume of the C library.
-use Prim.Native.Nat.{_+_, _-_, _≤_, _<_, _^_}
+use Prim.Native.Nat.{ℕ, _+_, _-_, _≤_, _<_, _^_}
 use native.Mathlib.Omega.{arith}
-use mathlib.Core.Path.{_≡_, sym, _∙_}
-use lib.ListN.{length}
+use mathlib.Core.Path.{_≡_, sym, _∙_, subst}
+use mathlib.Core.List.{List}
+use lib.ListN.{length, length-drop}
+use denote.Ref.{now}
 use lib.Seq.{length-take-le}
 use borrow.Author.Needs.{needs}
 use Rattle.controller.specs.State.{IsState}
+use Rattle.text.specs.Reading.{first-line}
 use Rattle.text.specs.Output.{line-room}
+use Rattle.text.proofs.Fields.{rest-of}
 use Rattle.session.proofs.Feeding.{line-within}
 use Rattle.vectors.proofs.answer.Statement.{statement}
 use Rattle.vectors.proofs.answer.Tie as tie
@@ -41,16 +45,31 @@ returns : tie.Need-returns Inv-loop μ-loop
 returns c = let i = c .before .before .before .loop .inv in (i .0, (i .1, i .2))
 
 sub-print : tie.Need-sub-print Inv-loop μ-loop
-sub-print c = omega (arith, c .before .line-end .ensures)
+sub-print c = c .before .before .before .loop .inv .2
 
 part-print-start : tie.Need-part-print-start Inv-loop μ-loop
-part-print-start c = omega (arith, c .before .line-end .ensures)
+part-print-start c = c .before .before .before .loop .inv .2
 
 part-print-end : tie.Need-part-print-end Inv-loop μ-loop
-part-print-end c = omega (arith, c .before .line-end .ensures, line-within (c .before .before .before .before .before .before .before .args .block .now) (c .before .before .before .loop .from) (c .before .before .before .loop .inv .2))
+part-print-end c = search needs
+
+sub-print-2 : tie.Need-sub-print-2 Inv-loop μ-loop
+sub-print-2 c = omega (arith, c .before .before .line-end .ensures)
 
 print-requires : tie.Need-print-requires Inv-loop μ-loop
-print-requires c κs = let i = c .before .before .before .before .before .before .loop .inv in (i .0, (omega (arith, i .1, i .6, c .before .before .before .before .before .loop-test .taken), omega (arith, i .3, i .4, i .5)))
+print-requires c κs =
+    let head = c .before .before .before .before .before .before in
+    let block = now (head .before .before .before .before .args .block) in
+    let from = head .loop .from in
+    let i = head .loop .inv in
+    let end = c .before .before .before .before .line-end in
+    let found = end .ensures in
+    let line = c .before .before .before .if1 .left in
+    let e = line-within block from (i .2) in
+    let lent = rest-of from block in (
+      (subst (λ (l : List ℕ). end .result - from ≡ length (first-line l)) (sym lent) (omega (arith, found)), subst (λ (l : List ℕ). end .result - from < length l) (sym lent) (omega (arith, found, line, e, length-drop from block))),
+      (i .0, (omega (arith, i .1, i .6, c .before .before .before .before .before .loop-test .taken), omega (arith, i .3, i .4, i .5))),
+    )
 
 slice-reshare-prefix-write-all : tie.Need-slice-reshare-prefix-write-all Inv-loop μ-loop
 slice-reshare-prefix-write-all c = omega (arith, c .before .before .before .before .print .ensures .1 .1, c .before .out .given)
@@ -118,6 +137,7 @@ answer-spec =
     sub-print
     part-print-start
     part-print-end
+    sub-print-2
     print-requires
     slice-reshare-prefix-write-all
     slice-aggregate-write-all

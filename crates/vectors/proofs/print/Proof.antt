@@ -11,14 +11,17 @@ use Rattle.vectors.proofs.print.Statement.{statement}
 use Rattle.vectors.proofs.print.Tie as tie
 
 -- a slice is no longer than the machine can address
-line-small : (c : tie.After-shared-slice-known) → length (c .before .args .line .now) < 2 ^ 63
-line-small c = search needs
+text-small : (c : tie.After-shared-slice-known) → length (c .before .args .text .now) < 2 ^ 63
+text-small c = search needs
+
+slice-aggregate-line : tie.Need-slice-aggregate-line
+slice-aggregate-line c = sym (length-take-le _ _ (omega (arith, c .before .before .before .before .pre .0)))
 
 is-head-requires : tie.Need-is-head-requires
 is-head-requires c κs = search needs
 
 copy-requires : tie.Need-copy-requires
-copy-requires c κs = search needs
+copy-requires c κs = (simp length-take (omega (arith, c .before .before .before .before .before .before .before .before .pre .0)), omega (arith, c .before .if2 .taken))
 
 slice-write-out : tie.Need-slice-write-out
 slice-write-out c = search needs
@@ -29,8 +32,8 @@ number-in-requires c κs = search needs
 power-up-requires : tie.Need-power-up-requires
 power-up-requires c κs = search needs
 
-add-t18 : tie.Need-add-t18
-add-t18 c = omega (arith, line-small (c .before .before .before .before .before .before .before .before .before .before .before))
+add-t20 : tie.Need-add-t20
+add-t20 c = omega (arith, c .before .before .before .before .before .before .before .before .before .before .before .before .before .pre .0, text-small (c .before .before .before .before .before .before .before .before .before .before .before .before))
 
 same-length : tie.Need-same-length
 same-length c = search needs
@@ -48,10 +51,10 @@ slice-aggregate-play : tie.Need-slice-aggregate-play
 slice-aggregate-play c = sym (length-take-le _ _ (c .before .before .smaller .ensures))
 
 play-requires : tie.Need-play-requires
-play-requires c κs = let start = c .before .before .before .before .before .before .before .before .before in (start .pre .0, simp length-take (omega (arith, start .pre .1 .1)))
+play-requires c κs = let start = c .before .before .before .before .before .before .before .before .before .before in (start .pre .1 .0, (omega (arith, start .pre .0), simp length-take (omega (arith, start .pre .1 .1 .1))))
 
-add-t24 : tie.Need-add-t24
-add-t24 c = omega (arith, c .before .before .before .before .before .before .before .before .before .before .before .before .before .before .before .before .pre .1 .0)
+add-t26 : tie.Need-add-t26
+add-t26 c = omega (arith, c .before .before .before .before .before .before .before .before .before .before .before .before .before .before .before .before .before .pre .1 .1 .0)
 
 same-length-2 : tie.Need-same-length-2
 same-length-2 c = search needs
@@ -66,19 +69,20 @@ pub print-spec : {M : Type 1} → statement M
 print-spec =
     tie.close
     (tie.spec
+    slice-aggregate-line
     is-head-requires
     copy-requires
     slice-write-out
     number-in-requires
     power-up-requires
-    add-t18
+    add-t20
     same-length
     returns
     smaller-requires
     slice-relend-prefix-play
     slice-aggregate-play
     play-requires
-    add-t24
+    add-t26
     same-length-2
     same-length-3
     returns-2)

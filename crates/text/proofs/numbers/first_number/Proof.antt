@@ -11,7 +11,7 @@ use Rattle.text.proofs.numbers.first_number.Statement.{statement}
 use Rattle.text.proofs.numbers.first_number.Tie as tie
 
 returns : tie.Need-returns
-returns c = empty-front _ (c .if1 .taken)
+returns c = empty-front _ _ (c .if1 .taken)
 
 shared-slice-read-if2 : tie.Need-shared-slice-read-if2
 shared-slice-read-if2 c = search needs
@@ -32,15 +32,15 @@ enum-known-value : tie.Need-enum-known-value
 enum-known-value c = search needs
 
 cast-n : tie.Need-cast-n
-cast-n c = let call = c .before .before .before in plain-fits _ (digits-small _ _ _ (sym (c .before .value .given .1) ∙ call .first-digits .ensures) .0)
+cast-n c = let call = c .before .before .before in plain-fits _ (digits-small _ _ _ _ (sym (c .before .value .given .1) ∙ call .first-digits .ensures) .0)
 
-sub-t18 : tie.Need-sub-t18
-sub-t18 c = let call = c .before .before .before in minus-fits _ (digits-small _ _ _ (sym (c .before .value .given .1) ∙ call .first-digits .ensures) .0)
+sub-t19 : tie.Need-sub-t19
+sub-t19 c = let call = c .before .before .before in minus-fits _ (digits-small _ _ _ _ (sym (c .before .value .given .1) ∙ call .first-digits .ensures) .0)
 
-add-t19 : tie.Need-add-t19
-add-t19 c =
+add-t20 : tie.Need-add-t20
+add-t20 c =
     let call = c .before .before .before in
-    omega (arith, digits-small _ _ _ (sym (c .before .value .given .1) ∙ call .first-digits .ensures) .1, length-take (length (now (call .before .before .before .before .before .before .args .s)) - 1) (drop 1 (now (call .before .before .before .before .before .before .args .s))), call .before .before .before .before .before .before .good)
+    omega (arith, digits-small _ _ _ _ (sym (c .before .value .given .1) ∙ call .first-digits .ensures) .1, length-take (length (now (call .before .before .before .before .before .before .args .s)) - 1) (drop 1 (now (call .before .before .before .before .before .before .args .s))), call .before .before .before .before .before .before .good)
 
 enum-told : tie.Need-enum-told
 enum-told c = search needs
@@ -51,8 +51,8 @@ first-digits-requires-2 c κs = search needs
 enum-known-value-2 : tie.Need-enum-known-value-2
 enum-known-value-2 c = search needs
 
-cast-t22 : tie.Need-cast-t22
-cast-t22 c = let call = c .before .before .before in plain-fits _ (digits-small _ _ _ (sym (c .before .value2 .given .1) ∙ call .first-digits2 .ensures) .0)
+cast-t23 : tie.Need-cast-t23
+cast-t23 c = let call = c .before .before .before in plain-fits _ (digits-small _ _ _ _ (sym (c .before .value2 .given .1) ∙ call .first-digits2 .ensures) .0)
 
 enum-told-2 : tie.Need-enum-told-2
 enum-told-2 c = search needs
@@ -61,25 +61,25 @@ returns-2 : tie.Need-returns-2
 returns-2 c =
     let call = c .before .before .before in
     let test = call .before .before in
-    minus-number _ (test .before .before .if1 .left) _ (test .if2 .taken) (call .first-digits .ensures) _ _ (c .before .value .given .1)
+    minus-number _ _ (test .before .before .if1 .left) _ (test .before .before .before .before .pre) (test .if2 .taken) (call .first-digits .ensures) _ _ (c .before .value .given .1)
 
 returns-3 : tie.Need-returns-3
 returns-3 c =
     let call = c .before .before in
     let test = call .before .before in
-    minus-none _ (test .before .before .if1 .left) _ (test .if2 .taken) (call .first-digits .ensures) (c .enum-told .given .1)
+    minus-none _ _ (test .before .before .if1 .left) _ (test .before .before .before .before .pre) (test .if2 .taken) (call .first-digits .ensures) (c .enum-told .given .1)
 
 returns-4 : tie.Need-returns-4
 returns-4 c =
     let call = c .before .before .before in
     let test = call .before in
-    plain-number _ (test .before .before .if1 .left) _ (test .if2 .left) (call .first-digits2 .ensures) _ _ (c .before .value2 .given .1)
+    plain-number _ _ (test .before .before .if1 .left) _ (test .if2 .left) (call .first-digits2 .ensures) _ _ (c .before .value2 .given .1)
 
 returns-5 : tie.Need-returns-5
 returns-5 c =
     let call = c .before .before in
     let test = call .before in
-    plain-none _ (test .before .before .if1 .left) _ (test .if2 .left) (call .first-digits2 .ensures) (c .enum-told2 .given .1)
+    plain-none _ _ (test .before .before .if1 .left) _ (test .if2 .left) (call .first-digits2 .ensures) (c .enum-told2 .given .1)
 
 pub first-number-spec : {M : Type 1} → statement M
 first-number-spec =
@@ -93,12 +93,12 @@ first-number-spec =
     first-digits-requires
     enum-known-value
     cast-n
-    sub-t18
-    add-t19
+    sub-t19
+    add-t20
     enum-told
     first-digits-requires-2
     enum-known-value-2
-    cast-t22
+    cast-t23
     enum-told-2
     returns-2
     returns-3
