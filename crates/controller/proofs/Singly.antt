@@ -43,18 +43,13 @@ use Rattle.controller.specs.Alone.{passes-key, counts-ticks, ticks-alone
 use Rattle.controller.proofs.Numbers.{key-small, move-small}
 use Rattle.controller.proofs.Results.{effect-on}
 use Rattle.controller.proofs.Hands.{short-as, moved-as}
+use Rattle.controller.proofs.Hosts.{stored}
 use Rattle.controller.proofs.Stepping.{few, sent-did}
 
 -- where both of two tests hold
 both-hold : (p q : Bool) → (not p && q) ≡ true → (p ≡ false) × (q ≡ true)
 both-hold true q e = absurd (true≢false (sym e))
 both-hold false q e = (refl, e)
-
--- one byte stored at the front of a buffer
-stored : (b : ℕ) (l : List ℕ) → 1 ≤ length l → Wrote (b ∷ []) 1 l (set l 0 b)
-unfolding over
-stored b [] h = absurd (omega arith)
-stored b (x ∷ l) h = record { count = refl; buffer = refl }
 
 module _ (s : State) (h : IsState s) where
   -- a key that passes: its code stands in the buffer, and the state is as it was

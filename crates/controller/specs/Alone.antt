@@ -1,23 +1,23 @@
 -- Inputs that leave most of the state: when a key only goes out, a tick only moves the clock, an event goes out at once, and a command
 -- leaves queue and pause. What they do then is no rule of its own: it is what the step does.
-use Prim.Native.Nat.{ℕ, _≤_}
-use mathlib.Core.Path.{_≡_}
+use Prim.Native.Nat.{ℕ}
+use mathlib.Core.Bool.{Bool, true, false, cond, not, _&&_}
 use mathlib.Core.List.{List, []}
-use lib.ListN.{length}
-use Rattle.output.specs.Short.{short-of, short-bytes, IsShort}
-use Rattle.output.specs.Writing.{Wrote}
-use Rattle.protocol.specs.declared.Received.{Received}
-use Rattle.protocol.specs.Reading.{feed, received-of}
-use mathlib.Core.Bool.{Bool, true, false, not, _&&_}
-use Rattle.protocol.specs.Settings.{monitors}
+use Rattle.output.specs.Packets.{bytes}
+use Rattle.output.specs.Short.{short-of}
 use Rattle.protocol.specs.declared.StickMode.{StickMode}
 use Rattle.protocol.specs.declared.StickMode.the-variants.{Event, Interrogation, Monitoring, Fire, Cursor}
+use Rattle.protocol.specs.declared.Meaning.{Meaning}
+use Rattle.protocol.specs.declared.Received.{Received}
+use Rattle.protocol.specs.Settings.{monitors}
+use Rattle.protocol.specs.Codes.{meaning-of}
+use Rattle.protocol.specs.Commands.{executed, sets}
 use Rattle.controller.specs.declared.State.{State}
 use Rattle.controller.specs.declared.Input.{Input}
 use Rattle.controller.specs.declared.Input.the-variants.{Byte, Key, Button, Move, Joystick, Sample, Tick}
-use Rattle.controller.specs.declared.Answer.the-variants.{Taken}
 use Rattle.controller.specs.declared.obey.Obeyed.{Obeyed}
-use Rattle.controller.specs.Step.{in-range, Did}
+use Rattle.controller.specs.Host.{effect, is-pause, is-reset}
+use Rattle.controller.specs.Step.{in-range}
 
 -- "Both monitoring modes send nothing else for events", and a key changes nothing
 unfoldable pub passes-key : State → ℕ → Bool
@@ -57,9 +57,19 @@ unmoved alone s = record { alone = alone; short = short-of []; settings = s .set
 abbrev pub obeyed : Received → Obeyed → State → State
 obeyed got r s = record { settings = r .settings; command = got .command; paused = s .paused; queue = s .queue; mouse = r .mouse; sticks = r .sticks; clock = r .clock }
 
--- What a whole command came to, by what the step does with the byte b that completed it. Which commands are alone is left free: those
--- that are ignored, and those that are executed while output is not paused, but for pauses and resets.
-pub record ObeyedAs (s : State) (got : Received) (r : Obeyed) : Type 0 where
-  pub short : IsShort (r .short)
-  pub did : r .alone ≡ true → (b : ℕ) → got ≡ received-of (feed (s .command) b) → got .whole ≡ true → (l after : List ℕ) (k : ℕ) → r .short .len ≤ length l
-      → Wrote (short-bytes (r .short)) k l after → Did s (Byte b) l (record { answer = Taken; count = k; state = obeyed got r s }) after
+-- a command that acts while output is not paused: its own packet, the settings and the parts
+abbrev pub acting : Meaning → List ℕ → State → Obeyed
+acting m ps s =
+    let e = effect m ps (s .settings) (s .mouse) (s .sticks) (s .clock) in
+    record { alone = true; short = short-of (bytes (e .packets)); settings = sets m ps (s .settings); mouse = e .mouse; sticks = e .sticks; clock = e .clock }
+
+-- "Ignored commands change nothing"; one that is executed acts, but while output is paused, and for pauses and resets, the step is to be asked
+unfoldable pub obeys-by : Meaning → State → Received → Obeyed
+obeys-by m s got =
+    cond (executed m (got .params) (s .settings))
+    (cond (s .paused) (unmoved false s) (cond (is-pause m) (unmoved false s) (cond (is-reset m) (unmoved false s) (acting m (got .params) s))))
+    (unmoved true s)
+
+-- what a whole command comes to
+abbrev pub obeys : State → Received → Obeyed
+obeys s got = obeys-by (meaning-of (got .code)) s got

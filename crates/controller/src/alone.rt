@@ -1,5 +1,5 @@
-// Events that change one part of the state at most. They are told apart for whoever holds a state and changes it where it stands: the
-// step takes the whole state and hands it back, queue and all.
+// Events that leave most of the state, and what they come to. They are told apart for whoever holds a state and changes it where it
+// stands: the step takes the whole state and hands it back, queue and all.
 ghost use mathlib.Core.Path.{_≡_};
 ghost use mathlib.Core.Bool.{true, false};
 ghost use Rattle.controller.specs.State.{IsState};

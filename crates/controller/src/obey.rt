@@ -1,7 +1,7 @@
 // A whole command, for whoever holds a state and changes it where it stands.
 ghost use mathlib.Core.Path.{_≡_};
 ghost use Rattle.controller.specs.State.{IsState};
-ghost use Rattle.controller.specs.Alone.{unmoved, ObeyedAs};
+ghost use Rattle.controller.specs.Alone.{unmoved, obeys};
 use crate::State;
 use crate::command;
 use clock::Clock;
@@ -25,7 +25,7 @@ impl State {
     // A command that is ignored, or executed while output is not paused: queue and pause stay. A pause and a reset do not.
     pub fn obeys(self, got: Received) -> Obeyed
         requires { ⌜ IsState self ⌝ }
-        ensures { λ r. ⌜ ObeyedAs self got r ⌝ }
+        ensures { λ r. ⌜ r ≡ obeys self got ⌝ }
     {
         let settings = self.settings;
         let params = got.params;

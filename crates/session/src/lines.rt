@@ -165,19 +165,6 @@ impl Session {
                             continue;
                         }
                     }
-                    let done = state.step(input, lent);
-                    let answer = done.answer;
-                    state = done.state;
-                    at += text::write_line(
-                        number,
-                        answer.number(),
-                        lent,
-                        done.count,
-                        &mut out[at..],
-                    );
-                    number += 1;
-                    from = end + 1;
-                    continue;
                 }
                 _ => {}
             }

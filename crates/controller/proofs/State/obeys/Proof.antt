@@ -3,7 +3,7 @@
 use mathlib.Core.Path.{sym, _∙_}
 use borrow.Author.Needs.{needs}
 use borrow.Author.Tests.{not-true, not-false}
-use Rattle.controller.proofs.Obeying.{left, ignored-as, acted-as}
+use Rattle.controller.proofs.Obeying.{by-code, by-ignored, by-paused, by-pause, by-reset, by-acting, told}
 use Rattle.controller.proofs.State.obeys.Statement.{statement}
 use Rattle.controller.proofs.State.obeys.Tie as tie
 
@@ -20,13 +20,18 @@ returns : tie.Need-returns
 returns c =
     let asked = c .before .before in
     let start = asked .before .before .before .before in
-    ignored-as (start .args .self) (start .args .got) _ (start .pre) (asked .before .meaning-of .ensures) (sym (asked .executes .ensures) ∙ not-true _ (c .before .if1 .taken)) (c .stays .ensures)
+    c .stays .ensures ∙ by-ignored _ (start .args .self) (start .args .got) (sym (asked .executes .ensures) ∙ not-true _ (c .before .if1 .taken)) ∙ by-code (start .args .self) (start .args .got) (asked .before .meaning-of .ensures)
 
 stays-requires-2 : tie.Need-stays-requires-2
 stays-requires-2 c κs = search needs
 
 returns-2 : tie.Need-returns-2
-returns-2 c = left _ _ (c .stays2 .ensures)
+returns-2 c =
+    let asked = c .before .before .before in
+    let start = asked .before .before .before .before in
+    c .stays2 .ensures
+    ∙ by-paused _ (start .args .self) (start .args .got) (sym (asked .executes .ensures) ∙ not-false _ (c .before .before .if1 .left)) (c .before .if2 .taken)
+    ∙ by-code (start .args .self) (start .args .got) (asked .before .meaning-of .ensures)
 
 is-pause-requires : tie.Need-is-pause-requires
 is-pause-requires c κs = search needs
@@ -35,7 +40,13 @@ stays-requires-3 : tie.Need-stays-requires-3
 stays-requires-3 c κs = search needs
 
 returns-3 : tie.Need-returns-3
-returns-3 c = left _ _ (c .stays3 .ensures)
+returns-3 c =
+    let pause = c .before .before in
+    let asked = pause .before .before .before in
+    let start = asked .before .before .before .before in
+    c .stays3 .ensures
+    ∙ by-pause _ (start .args .self) (start .args .got) (sym (asked .executes .ensures) ∙ not-false _ (pause .before .before .if1 .left)) (pause .before .if2 .left) (sym (pause .is-pause .ensures) ∙ c .before .if3 .taken)
+    ∙ by-code (start .args .self) (start .args .got) (asked .before .meaning-of .ensures)
 
 is-reset-requires : tie.Need-is-reset-requires
 is-reset-requires c κs = search needs
@@ -44,7 +55,15 @@ stays-requires-4 : tie.Need-stays-requires-4
 stays-requires-4 c κs = search needs
 
 returns-4 : tie.Need-returns-4
-returns-4 c = left _ _ (c .stays4 .ensures)
+returns-4 c =
+    let reset = c .before .before in
+    let pause = reset .before .before in
+    let asked = pause .before .before .before in
+    let start = asked .before .before .before .before in
+    c .stays4 .ensures
+    ∙ by-reset _ (start .args .self) (start .args .got) (sym (asked .executes .ensures) ∙ not-false _ (pause .before .before .if1 .left)) (pause .before .if2 .left) (sym (pause .is-pause .ensures) ∙ reset .before .if3 .left)
+    (sym (reset .is-reset .ensures) ∙ c .before .if4 .taken)
+    ∙ by-code (start .args .self) (start .args .got) (asked .before .meaning-of .ensures)
 
 acts-requires : tie.Need-acts-requires
 acts-requires c κs =
@@ -61,9 +80,10 @@ returns-5 c =
     let pause = reset .before .before in
     let asked = pause .before .before .before in
     let start = asked .before .before .before .before in
-    acted-as (start .args .self) (start .args .got) _ (start .pre) (asked .before .meaning-of .ensures) (pause .before .if2 .left) (acts .acts .result) (c .after .result)
-    (sym (asked .executes .ensures) ∙ not-false _ (pause .before .before .if1 .left)) (sym (pause .is-pause .ensures) ∙ reset .before .if3 .left) (sym (reset .is-reset .ensures) ∙ acts .before .before .before .before .if4 .left)
-    (acts .acts .ensures) (c .after .ensures)
+    told _ (start .args .got .params) (start .args .self) (acts .acts .ensures) (c .after .ensures)
+    ∙ by-acting _ (start .args .self) (start .args .got) (sym (asked .executes .ensures) ∙ not-false _ (pause .before .before .if1 .left)) (pause .before .if2 .left) (sym (pause .is-pause .ensures) ∙ reset .before .if3 .left)
+    (sym (reset .is-reset .ensures) ∙ acts .before .before .before .before .if4 .left)
+    ∙ by-code (start .args .self) (start .args .got) (asked .before .meaning-of .ensures)
 
 pub obeys-spec : {M : Type 1} → statement M
 obeys-spec =

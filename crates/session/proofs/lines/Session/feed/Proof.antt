@@ -20,6 +20,7 @@ use Rattle.controller.specs.declared.Input.the-variants.{Byte, Key, Move, Tick}
 use Rattle.controller.specs.Alone.{sends-at-once}
 use Rattle.controller.proofs.Stepping.{kept}
 use Rattle.controller.proofs.Hosts.{within-limit, half-did}
+use Rattle.controller.proofs.Obeying.{obeyed-as}
 use Rattle.controller.proofs.Singly.{key-did, tick-did, event-few, event-did, motion-did, motion-small, passing-small}
 use Rattle.text.specs.Line.{Good}
 use Rattle.session.proofs.Playing.{answer-most, good-line, bad-line, bad-printed, bad-state, count-fits, as-long, good-printed, good-state}
@@ -533,7 +534,9 @@ obeys-requires : tie.Need-obeys-requires Inv-loop μ-loop
 obeys-requires c κs = c .before .before .before .before .before .before .before .before .before .before .before .before .before .loop .inv .0 .keeps
 
 write-requires-2 : tie.Need-write-requires-2 Inv-loop μ-loop
-write-requires-2 c κs = (c .before .before .before .before .before .obeys .ensures .short .len, c .before .if9 .taken)
+write-requires-2 c κs =
+    let head = c .before .before .before .before .before .before .before .before .before .before .before .before .before .before .before .before .before .before .before in
+    (obeyed-as (head .loop .state) _ (head .loop .inv .0 .keeps) (c .before .before .before .before .before .obeys .ensures) .short .len, c .before .if9 .taken)
 
 sub-write-line-6 : tie.Need-sub-write-line-6 Inv-loop μ-loop
 sub-write-line-6 c = let l = c .before .before .before .before .before .before .before .before .before .before .before .before .before .before .before .before .before .before .before .before .before .before .before .before .before .before .before .before .loop .inv .0 in omega (arith, l .room, l .same)
@@ -552,7 +555,7 @@ write-line-requires-6 c κs =
     let read = good-line (now (start .args .text)) (head .loop .from) _ (c .before .before .before .before .before .before .before .before .before .before .before .before .before .before .before .before .before .before .before .before .before .before .before .before .before .before .read-line .ensures) _ _ (c .before .before .before .before .before .before .before .before .before .before .before .before .before .before .before .before .before .before .before .before .before .before .before .before .read .given .1) in
     let state = head .loop .state in
     let is = read .2 ∙ ap Good (c .before .before .before .before .before .before .before .before .before .before .before .before .before .before .before .before .before .before .before .before .before .kind3 .given .1) in
-    let did = kept state (Byte _) {l = head .loop .lent} (r .keeps) (omega (arith, c .before .before .before .before .before .before .before .before .before .before .before .before .before .before .before .before .before .before .before .before .known-told4 .given)) (c .before .before .before .before .before .before .before .before .before .before .before .before .before .before .before .obeys .ensures .did (c .before .before .before .before .before .before .before .before .before .before .before .before .before .if8 .taken) _ (c .before .before .before .before .before .before .before .before .before .before .before .before .before .before .before .before .before .before .feed .ensures) (not-false _ (c .before .before .before .before .before .before .before .before .before .before .before .before .before .before .before .before .if7 .left)) (head .loop .lent) _ _ (c .before .before .before .before .before .before .before .before .before .before .before .if9 .taken) (c .before .before .before .before .before .before .before .before .before .write2 .ensures)) in
+    let did = kept state (Byte _) {l = head .loop .lent} (r .keeps) (omega (arith, c .before .before .before .before .before .before .before .before .before .before .before .before .before .before .before .before .before .before .before .before .known-told4 .given)) (obeyed-as state _ (r .keeps) (c .before .before .before .before .before .before .before .before .before .before .before .before .before .before .before .obeys .ensures) .did (c .before .before .before .before .before .before .before .before .before .before .before .before .before .if8 .taken) _ (c .before .before .before .before .before .before .before .before .before .before .before .before .before .before .before .before .before .before .feed .ensures) (not-false _ (c .before .before .before .before .before .before .before .before .before .before .before .before .before .before .before .before .if7 .left)) (head .loop .lent) _ _ (c .before .before .before .before .before .before .before .before .before .before .before .if9 .taken) (c .before .before .before .before .before .before .before .before .before .write2 .ensures)) in
     let test = c .before .before .before .before .before .before .before .before .before .before .before .before .before .before .before .before .before .before .before .before .before .before .before .before .before .before .before .before .loop-test .taken in
     let room = c .before .before .before .before .before .before .before .before .before .before .before .before .before .before .before .before .before .before .before .before .before .before .before .before .before .before .before .before .before .before .before .line-room .ensures in
     let fits = count-fits state (head .loop .number) _ is (did .0) in
@@ -595,7 +598,7 @@ loop-again-6 c =
     let read = good-line (now (start .args .text)) (head .loop .from) _ (c .before .before .before .before .before .before .before .before .before .before .before .before .before .before .before .before .before .before .before .before .before .before .before .before .before .before .before .before .before .read-line .ensures) _ _ (c .before .before .before .before .before .before .before .before .before .before .before .before .before .before .before .before .before .before .before .before .before .before .before .before .before .before .before .read .given .1) in
     let state = head .loop .state in
     let is = read .2 ∙ ap Good (c .before .before .before .before .before .before .before .before .before .before .before .before .before .before .before .before .before .before .before .before .before .before .before .before .kind3 .given .1) in
-    let did = kept state (Byte _) {l = head .loop .lent} (r .keeps) (omega (arith, c .before .before .before .before .before .before .before .before .before .before .before .before .before .before .before .before .before .before .before .before .before .before .before .known-told4 .given)) (c .before .before .before .before .before .before .before .before .before .before .before .before .before .before .before .before .before .before .obeys .ensures .did (c .before .before .before .before .before .before .before .before .before .before .before .before .before .before .before .before .if8 .taken) _ (c .before .before .before .before .before .before .before .before .before .before .before .before .before .before .before .before .before .before .before .before .before .feed .ensures) (not-false _ (c .before .before .before .before .before .before .before .before .before .before .before .before .before .before .before .before .before .before .before .if7 .left)) (head .loop .lent) _ _ (c .before .before .before .before .before .before .before .before .before .before .before .before .before .before .if9 .taken) (c .before .before .before .before .before .before .before .before .before .before .before .before .write2 .ensures)) in
+    let did = kept state (Byte _) {l = head .loop .lent} (r .keeps) (omega (arith, c .before .before .before .before .before .before .before .before .before .before .before .before .before .before .before .before .before .before .before .before .before .before .before .known-told4 .given)) (obeyed-as state _ (r .keeps) (c .before .before .before .before .before .before .before .before .before .before .before .before .before .before .before .before .before .before .obeys .ensures) .did (c .before .before .before .before .before .before .before .before .before .before .before .before .before .before .before .before .if8 .taken) _ (c .before .before .before .before .before .before .before .before .before .before .before .before .before .before .before .before .before .before .before .before .before .feed .ensures) (not-false _ (c .before .before .before .before .before .before .before .before .before .before .before .before .before .before .before .before .before .before .before .if7 .left)) (head .loop .lent) _ _ (c .before .before .before .before .before .before .before .before .before .before .before .before .before .before .if9 .taken) (c .before .before .before .before .before .before .before .before .before .before .before .before .write2 .ensures)) in
     let few = number-most _ _ _ _ r in
     let test = c .before .before .before .before .before .before .before .before .before .before .before .before .before .before .before .before .before .before .before .before .before .before .before .before .before .before .before .before .before .before .before .loop-test .taken in
     let room = c .before .before .before .before .before .before .before .before .before .before .before .before .before .before .before .before .before .before .before .before .before .before .before .before .before .before .before .before .before .before .before .before .before .before .line-room .ensures in
@@ -610,11 +613,26 @@ add-at-6 : tie.Need-add-at-6 Inv-loop μ-loop
 add-at-6 c =
     omega (arith, loop-again-6 c .0 .room, out-small (c .before .before .before .before .before .before .before .before .before .before .before .before .before .before .before .before .before .before .before .before .before .before .before .before .before .before .before .before .before .before .before .before .before .before .before))
 
-step-requires : tie.Need-step-requires Inv-loop μ-loop
-step-requires c κs = c .before .before .before .before .before .before .before .before .before .before .before .before .before .before .before .before .before .loop .inv .0 .keeps
+sends-at-once-requires-2 : tie.Need-sends-at-once-requires-2 Inv-loop μ-loop
+sends-at-once-requires-2 c κs = search needs
 
-number-requires : tie.Need-number-requires Inv-loop μ-loop
-number-requires c κs = search needs
+comes-to-requires : tie.Need-comes-to-requires Inv-loop μ-loop
+comes-to-requires c κs =
+    let goes = sym (c .before .sends-at-once2 .ensures) ∙ c .if10 .taken in
+    (c .before .before .before .before .before .before .before .before .before .loop .inv .0 .keeps, goes)
+
+len-requires-2 : tie.Need-len-requires-2 Inv-loop μ-loop
+len-requires-2 c κs = search needs
+
+add-if11 : tie.Need-add-if11 Inv-loop μ-loop
+add-if11 c =
+    let head = c .before .before .before .before .before .before .before .before .before .before .before .before .before .before in
+    let goes = sym (c .before .before .before .before .before .before .sends-at-once2 .ensures) ∙ c .before .before .before .before .before .if10 .taken in
+    let came = c .before .before .before .before .comes-to in
+    omega (arith, event-few (head .loop .state) (head .loop .inv .0 .keeps) _ goes (came .result) (came .ensures) (c .before .len2 .ensures))
+
+emit-requires : tie.Need-emit-requires Inv-loop μ-loop
+emit-requires c κs = (c .before .before .before .before .before .before .comes-to .ensures .short .len, omega (arith, c .before .before .before .len2 .ensures, c .before .if11 .taken))
 
 sub-write-line-7 : tie.Need-sub-write-line-7 Inv-loop μ-loop
 sub-write-line-7 c = let l = c .before .before .before .before .before .before .before .before .before .before .before .before .before .before .before .before .before .before .before .before .before .before .before .loop .inv .0 in omega (arith, l .room, l .same)
@@ -633,12 +651,14 @@ write-line-requires-7 c κs =
     let read = good-line (now (start .args .text)) (head .loop .from) _ (c .before .before .before .before .before .before .before .before .before .before .before .before .before .before .before .before .before .before .before .before .before .read-line .ensures) _ _ (c .before .before .before .before .before .before .before .before .before .before .before .before .before .before .before .before .before .before .before .read .given .1) in
     let state = head .loop .state in
     let is = read .2 in
-    let did = c .before .before .before .before .before .before .step .ensures in
+    let goes = sym (c .before .before .before .before .before .before .before .before .before .before .before .before .before .before .before .before .sends-at-once2 .ensures) ∙ c .before .before .before .before .before .before .before .before .before .before .before .before .before .before .before .if10 .taken in
+    let came = c .before .before .before .before .before .before .before .before .before .before .before .before .before .before .comes-to in
+    let did = event-did state (r .keeps) _ goes (came .result) (came .ensures) {l = head .loop .lent} (c .before .before .before .before .before .before .before .before .before .before .before .len2 .ensures) (c .before .before .before .before .before .before .before .before .before .if11 .taken) (c .before .before .before .before .before .before .before .emit .ensures) in
     let test = c .before .before .before .before .before .before .before .before .before .before .before .before .before .before .before .before .before .before .before .before .before .before .before .loop-test .taken in
     let room = c .before .before .before .before .before .before .before .before .before .before .before .before .before .before .before .before .before .before .before .before .before .before .before .before .before .before .line-room .ensures in
     let fits = count-fits state (head .loop .number) _ is (did .0) in
     let long = as-long state (head .loop .number) _ is (did .0) in (
-      subst (λ (a : ℕ). a ≤ 9) (sym (c .before .before .number .ensures)) (answer-most (c .before .before .before .before .before .before .step .result .answer)),
+      omega arith,
       omega (arith, fits, long),
       simp (length-take, length-drop) (omega (arith, test, room, fits, head .loop .inv .1, r .room, r .same)),
     )
@@ -676,104 +696,6 @@ loop-again-7 c =
     let read = good-line (now (start .args .text)) (head .loop .from) _ (c .before .before .before .before .before .before .before .before .before .before .before .before .before .before .before .before .before .before .before .before .before .before .before .before .read-line .ensures) _ _ (c .before .before .before .before .before .before .before .before .before .before .before .before .before .before .before .before .before .before .before .before .before .before .read .given .1) in
     let state = head .loop .state in
     let is = read .2 in
-    let did = c .before .before .before .before .before .before .before .before .before .step .ensures in
-    let few = number-most _ _ _ _ r in
-    let test = c .before .before .before .before .before .before .before .before .before .before .before .before .before .before .before .before .before .before .before .before .before .before .before .before .before .before .loop-test .taken in
-    let room = c .before .before .before .before .before .before .before .before .before .before .before .before .before .before .before .before .before .before .before .before .before .before .before .before .before .before .before .before .before .line-room .ensures in
-    let number = head .loop .number in
-    let found = ap (λ (k : ℕ). head .loop .from + k) (read .0) in (
-      turn _ _ _ _ r found (read .1) (head .loop .inv .1) (omega (arith, read .1, few, start .pre .1 .0)) (omega (arith, test, room))
-          (good-printed state number _ is (did .0) (c .before .before .before .before .before .number .ensures) (c .before .before .write-line7 .ensures)) (good-state state number _ is (did .0)) (did .1),
-      as-long state number _ is (did .0) ∙ head .loop .inv .1,
-    )
-
-add-at-7 : tie.Need-add-at-7 Inv-loop μ-loop
-add-at-7 c =
-    omega (arith, loop-again-7 c .0 .room, out-small (c .before .before .before .before .before .before .before .before .before .before .before .before .before .before .before .before .before .before .before .before .before .before .before .before .before .before .before .before .before .before))
-
-sends-at-once-requires-2 : tie.Need-sends-at-once-requires-2 Inv-loop μ-loop
-sends-at-once-requires-2 c κs = search needs
-
-comes-to-requires : tie.Need-comes-to-requires Inv-loop μ-loop
-comes-to-requires c κs =
-    let goes = sym (c .before .sends-at-once2 .ensures) ∙ c .if10 .taken in
-    (c .before .before .before .before .before .before .before .before .before .loop .inv .0 .keeps, goes)
-
-len-requires-2 : tie.Need-len-requires-2 Inv-loop μ-loop
-len-requires-2 c κs = search needs
-
-add-if11 : tie.Need-add-if11 Inv-loop μ-loop
-add-if11 c =
-    let head = c .before .before .before .before .before .before .before .before .before .before .before .before .before .before in
-    let goes = sym (c .before .before .before .before .before .before .sends-at-once2 .ensures) ∙ c .before .before .before .before .before .if10 .taken in
-    let came = c .before .before .before .before .comes-to in
-    omega (arith, event-few (head .loop .state) (head .loop .inv .0 .keeps) _ goes (came .result) (came .ensures) (c .before .len2 .ensures))
-
-emit-requires : tie.Need-emit-requires Inv-loop μ-loop
-emit-requires c κs = (c .before .before .before .before .before .before .comes-to .ensures .short .len, omega (arith, c .before .before .before .len2 .ensures, c .before .if11 .taken))
-
-sub-write-line-8 : tie.Need-sub-write-line-8 Inv-loop μ-loop
-sub-write-line-8 c = let l = c .before .before .before .before .before .before .before .before .before .before .before .before .before .before .before .before .before .before .before .before .before .before .before .loop .inv .0 in omega (arith, l .room, l .same)
-
-part-write-line-start-8 : tie.Need-part-write-line-start-8 Inv-loop μ-loop
-part-write-line-start-8 c = let l = c .before .before .before .before .before .before .before .before .before .before .before .before .before .before .before .before .before .before .before .before .before .before .before .loop .inv .0 in omega (arith, l .room, l .same)
-
-part-write-line-end-8 : tie.Need-part-write-line-end-8 Inv-loop μ-loop
-part-write-line-end-8 c = search needs
-
-write-line-requires-8 : tie.Need-write-line-requires-8 Inv-loop μ-loop
-write-line-requires-8 c κs =
-    let head = c .before .before .before .before .before .before .before .before .before .before .before .before .before .before .before .before .before .before .before .before .before .before .before .before in
-    let start = c .before .before .before .before .before .before .before .before .before .before .before .before .before .before .before .before .before .before .before .before .before .before .before .before .before .before .before .before .before .before in
-    let r = head .loop .inv .0 in
-    let read = good-line (now (start .args .text)) (head .loop .from) _ (c .before .before .before .before .before .before .before .before .before .before .before .before .before .before .before .before .before .before .before .before .before .read-line .ensures) _ _ (c .before .before .before .before .before .before .before .before .before .before .before .before .before .before .before .before .before .before .before .read .given .1) in
-    let state = head .loop .state in
-    let is = read .2 in
-    let goes = sym (c .before .before .before .before .before .before .before .before .before .before .before .before .before .before .before .before .sends-at-once2 .ensures) ∙ c .before .before .before .before .before .before .before .before .before .before .before .before .before .before .before .if10 .taken in
-    let came = c .before .before .before .before .before .before .before .before .before .before .before .before .before .before .comes-to in
-    let did = event-did state (r .keeps) _ goes (came .result) (came .ensures) {l = head .loop .lent} (c .before .before .before .before .before .before .before .before .before .before .before .len2 .ensures) (c .before .before .before .before .before .before .before .before .before .if11 .taken) (c .before .before .before .before .before .before .before .emit .ensures) in
-    let test = c .before .before .before .before .before .before .before .before .before .before .before .before .before .before .before .before .before .before .before .before .before .before .before .loop-test .taken in
-    let room = c .before .before .before .before .before .before .before .before .before .before .before .before .before .before .before .before .before .before .before .before .before .before .before .before .before .before .line-room .ensures in
-    let fits = count-fits state (head .loop .number) _ is (did .0) in
-    let long = as-long state (head .loop .number) _ is (did .0) in (
-      omega arith,
-      omega (arith, fits, long),
-      simp (length-take, length-drop) (omega (arith, test, room, fits, head .loop .inv .1, r .room, r .same)),
-    )
-
-add-number-8 : tie.Need-add-number-8 Inv-loop μ-loop
-add-number-8 c =
-    let head = c .before .before .before .before .before .before .before .before .before .before .before .before .before .before .before .before .before .before .before .before .before .before .before .before .before .before .before in
-    let start = c .before .before .before .before .before .before .before .before .before .before .before .before .before .before .before .before .before .before .before .before .before .before .before .before .before .before .before .before .before .before .before .before .before in
-    let r = head .loop .inv .0 in
-    let read = good-line (now (start .args .text)) (head .loop .from) _ (c .before .before .before .before .before .before .before .before .before .before .before .before .before .before .before .before .before .before .before .before .before .before .before .before .read-line .ensures) _ _ (c .before .before .before .before .before .before .before .before .before .before .before .before .before .before .before .before .before .before .before .before .before .before .read .given .1) in
-    let few = number-most _ _ _ _ r in
-    omega (arith, read .1, few, start .pre .1 .0)
-
-add-from-8 : tie.Need-add-from-8 Inv-loop μ-loop
-add-from-8 c =
-    let head = c .before .before .before .before .before .before .before .before .before .before .before .before .before .before .before .before .before .before .before .before .before .before .before .before .before .before .before in
-    let start = c .before .before .before .before .before .before .before .before .before .before .before .before .before .before .before .before .before .before .before .before .before .before .before .before .before .before .before .before .before .before .before .before .before in
-    let r = head .loop .inv .0 in
-    let read = good-line (now (start .args .text)) (head .loop .from) _ (c .before .before .before .before .before .before .before .before .before .before .before .before .before .before .before .before .before .before .before .before .before .before .before .before .read-line .ensures) _ _ (c .before .before .before .before .before .before .before .before .before .before .before .before .before .before .before .before .before .before .before .before .before .before .read .given .1) in
-    omega (arith, read .1)
-
-loop-less-8 : tie.Need-loop-less-8 Inv-loop μ-loop
-loop-less-8 c =
-    let head = c .before .before .before .before .before .before .before .before .before .before .before .before .before .before .before .before .before .before .before .before .before .before .before .before .before .before .before in
-    let start = c .before .before .before .before .before .before .before .before .before .before .before .before .before .before .before .before .before .before .before .before .before .before .before .before .before .before .before .before .before .before .before .before .before in
-    let r = head .loop .inv .0 in
-    let read = good-line (now (start .args .text)) (head .loop .from) _ (c .before .before .before .before .before .before .before .before .before .before .before .before .before .before .before .before .before .before .before .before .before .before .before .before .read-line .ensures) _ _ (c .before .before .before .before .before .before .before .before .before .before .before .before .before .before .before .before .before .before .before .before .before .before .read .given .1) in
-    omega (arith, read .1)
-
-loop-again-8 : tie.Need-loop-again-8 Inv-loop μ-loop
-loop-again-8 c =
-    let head = c .before .before .before .before .before .before .before .before .before .before .before .before .before .before .before .before .before .before .before .before .before .before .before .before .before .before .before in
-    let start = c .before .before .before .before .before .before .before .before .before .before .before .before .before .before .before .before .before .before .before .before .before .before .before .before .before .before .before .before .before .before .before .before .before in
-    let r = head .loop .inv .0 in
-    let read = good-line (now (start .args .text)) (head .loop .from) _ (c .before .before .before .before .before .before .before .before .before .before .before .before .before .before .before .before .before .before .before .before .before .before .before .before .read-line .ensures) _ _ (c .before .before .before .before .before .before .before .before .before .before .before .before .before .before .before .before .before .before .before .before .before .before .read .given .1) in
-    let state = head .loop .state in
-    let is = read .2 in
     let goes = sym (c .before .before .before .before .before .before .before .before .before .before .before .before .before .before .before .before .before .before .before .sends-at-once2 .ensures) ∙ c .before .before .before .before .before .before .before .before .before .before .before .before .before .before .before .before .before .before .if10 .taken in
     let came = c .before .before .before .before .before .before .before .before .before .before .before .before .before .before .before .before .before .comes-to in
     let did = event-did state (r .keeps) _ goes (came .result) (came .ensures) {l = head .loop .lent} (c .before .before .before .before .before .before .before .before .before .before .before .before .before .before .len2 .ensures) (c .before .before .before .before .before .before .before .before .before .before .before .before .if11 .taken) (c .before .before .before .before .before .before .before .before .before .before .emit .ensures) in
@@ -783,49 +705,49 @@ loop-again-8 c =
     let number = head .loop .number in
     let found = ap (λ (k : ℕ). head .loop .from + k) (read .0) in (
       turn _ _ _ _ r found (read .1) (head .loop .inv .1) (omega (arith, read .1, few, start .pre .1 .0)) (omega (arith, test, room))
-          (good-printed state number _ is (did .0) refl (c .before .before .write-line8 .ensures)) (good-state state number _ is (did .0)) (did .1),
+          (good-printed state number _ is (did .0) refl (c .before .before .write-line7 .ensures)) (good-state state number _ is (did .0)) (did .1),
       as-long state number _ is (did .0) ∙ head .loop .inv .1,
     )
 
-add-at-8 : tie.Need-add-at-8 Inv-loop μ-loop
-add-at-8 c =
-    omega (arith, loop-again-8 c .0 .room, out-small (c .before .before .before .before .before .before .before .before .before .before .before .before .before .before .before .before .before .before .before .before .before .before .before .before .before .before .before .before .before .before))
+add-at-7 : tie.Need-add-at-7 Inv-loop μ-loop
+add-at-7 c =
+    omega (arith, loop-again-7 c .0 .room, out-small (c .before .before .before .before .before .before .before .before .before .before .before .before .before .before .before .before .before .before .before .before .before .before .before .before .before .before .before .before .before .before))
 
-step-requires-2 : tie.Need-step-requires-2 Inv-loop μ-loop
-step-requires-2 c κs = c .before .before .before .before .before .before .before .before .before .before .loop .inv .0 .keeps
+step-requires : tie.Need-step-requires Inv-loop μ-loop
+step-requires c κs = c .before .before .before .before .before .before .before .before .before .before .loop .inv .0 .keeps
 
-number-requires-2 : tie.Need-number-requires-2 Inv-loop μ-loop
-number-requires-2 c κs = search needs
+number-requires : tie.Need-number-requires Inv-loop μ-loop
+number-requires c κs = search needs
 
-sub-write-line-9 : tie.Need-sub-write-line-9 Inv-loop μ-loop
-sub-write-line-9 c = let l = c .before .before .before .before .before .before .before .before .before .before .before .before .before .before .before .before .loop .inv .0 in omega (arith, l .room, l .same)
+sub-write-line-8 : tie.Need-sub-write-line-8 Inv-loop μ-loop
+sub-write-line-8 c = let l = c .before .before .before .before .before .before .before .before .before .before .before .before .before .before .before .before .loop .inv .0 in omega (arith, l .room, l .same)
 
-part-write-line-start-9 : tie.Need-part-write-line-start-9 Inv-loop μ-loop
-part-write-line-start-9 c = let l = c .before .before .before .before .before .before .before .before .before .before .before .before .before .before .before .before .loop .inv .0 in omega (arith, l .room, l .same)
+part-write-line-start-8 : tie.Need-part-write-line-start-8 Inv-loop μ-loop
+part-write-line-start-8 c = let l = c .before .before .before .before .before .before .before .before .before .before .before .before .before .before .before .before .loop .inv .0 in omega (arith, l .room, l .same)
 
-part-write-line-end-9 : tie.Need-part-write-line-end-9 Inv-loop μ-loop
-part-write-line-end-9 c = search needs
+part-write-line-end-8 : tie.Need-part-write-line-end-8 Inv-loop μ-loop
+part-write-line-end-8 c = search needs
 
-write-line-requires-9 : tie.Need-write-line-requires-9 Inv-loop μ-loop
-write-line-requires-9 c κs =
+write-line-requires-8 : tie.Need-write-line-requires-8 Inv-loop μ-loop
+write-line-requires-8 c κs =
     let head = c .before .before .before .before .before .before .before .before .before .before .before .before .before .before .before .before .before in
     let start = c .before .before .before .before .before .before .before .before .before .before .before .before .before .before .before .before .before .before .before .before .before .before .before in
     let r = head .loop .inv .0 in
     let read = good-line (now (start .args .text)) (head .loop .from) _ (c .before .before .before .before .before .before .before .before .before .before .before .before .before .before .read-line .ensures) _ _ (c .before .before .before .before .before .before .before .before .before .before .before .before .read .given .1) in
     let state = head .loop .state in
     let is = read .2 in
-    let did = c .before .before .before .before .before .before .step2 .ensures in
+    let did = c .before .before .before .before .before .before .step .ensures in
     let test = c .before .before .before .before .before .before .before .before .before .before .before .before .before .before .before .before .loop-test .taken in
     let room = c .before .before .before .before .before .before .before .before .before .before .before .before .before .before .before .before .before .before .before .line-room .ensures in
     let fits = count-fits state (head .loop .number) _ is (did .0) in
     let long = as-long state (head .loop .number) _ is (did .0) in (
-      subst (λ (a : ℕ). a ≤ 9) (sym (c .before .before .number2 .ensures)) (answer-most (c .before .before .before .before .before .before .step2 .result .answer)),
+      subst (λ (a : ℕ). a ≤ 9) (sym (c .before .before .number .ensures)) (answer-most (c .before .before .before .before .before .before .step .result .answer)),
       omega (arith, fits, long),
       simp (length-take, length-drop) (omega (arith, test, room, fits, head .loop .inv .1, r .room, r .same)),
     )
 
-add-number-9 : tie.Need-add-number-9 Inv-loop μ-loop
-add-number-9 c =
+add-number-8 : tie.Need-add-number-8 Inv-loop μ-loop
+add-number-8 c =
     let head = c .before .before .before .before .before .before .before .before .before .before .before .before .before .before .before .before .before .before .before .before in
     let start = c .before .before .before .before .before .before .before .before .before .before .before .before .before .before .before .before .before .before .before .before .before .before .before .before .before .before in
     let r = head .loop .inv .0 in
@@ -833,44 +755,44 @@ add-number-9 c =
     let few = number-most _ _ _ _ r in
     omega (arith, read .1, few, start .pre .1 .0)
 
-add-from-9 : tie.Need-add-from-9 Inv-loop μ-loop
-add-from-9 c =
+add-from-8 : tie.Need-add-from-8 Inv-loop μ-loop
+add-from-8 c =
     let head = c .before .before .before .before .before .before .before .before .before .before .before .before .before .before .before .before .before .before .before .before in
     let start = c .before .before .before .before .before .before .before .before .before .before .before .before .before .before .before .before .before .before .before .before .before .before .before .before .before .before in
     let r = head .loop .inv .0 in
     let read = good-line (now (start .args .text)) (head .loop .from) _ (c .before .before .before .before .before .before .before .before .before .before .before .before .before .before .before .before .before .read-line .ensures) _ _ (c .before .before .before .before .before .before .before .before .before .before .before .before .before .before .before .read .given .1) in
     omega (arith, read .1)
 
-loop-less-9 : tie.Need-loop-less-9 Inv-loop μ-loop
-loop-less-9 c =
+loop-less-8 : tie.Need-loop-less-8 Inv-loop μ-loop
+loop-less-8 c =
     let head = c .before .before .before .before .before .before .before .before .before .before .before .before .before .before .before .before .before .before .before .before in
     let start = c .before .before .before .before .before .before .before .before .before .before .before .before .before .before .before .before .before .before .before .before .before .before .before .before .before .before in
     let r = head .loop .inv .0 in
     let read = good-line (now (start .args .text)) (head .loop .from) _ (c .before .before .before .before .before .before .before .before .before .before .before .before .before .before .before .before .before .read-line .ensures) _ _ (c .before .before .before .before .before .before .before .before .before .before .before .before .before .before .before .read .given .1) in
     omega (arith, read .1)
 
-loop-again-9 : tie.Need-loop-again-9 Inv-loop μ-loop
-loop-again-9 c =
+loop-again-8 : tie.Need-loop-again-8 Inv-loop μ-loop
+loop-again-8 c =
     let head = c .before .before .before .before .before .before .before .before .before .before .before .before .before .before .before .before .before .before .before .before in
     let start = c .before .before .before .before .before .before .before .before .before .before .before .before .before .before .before .before .before .before .before .before .before .before .before .before .before .before in
     let r = head .loop .inv .0 in
     let read = good-line (now (start .args .text)) (head .loop .from) _ (c .before .before .before .before .before .before .before .before .before .before .before .before .before .before .before .before .before .read-line .ensures) _ _ (c .before .before .before .before .before .before .before .before .before .before .before .before .before .before .before .read .given .1) in
     let state = head .loop .state in
     let is = read .2 in
-    let did = c .before .before .before .before .before .before .before .before .before .step2 .ensures in
+    let did = c .before .before .before .before .before .before .before .before .before .step .ensures in
     let few = number-most _ _ _ _ r in
     let test = c .before .before .before .before .before .before .before .before .before .before .before .before .before .before .before .before .before .before .before .loop-test .taken in
     let room = c .before .before .before .before .before .before .before .before .before .before .before .before .before .before .before .before .before .before .before .before .before .before .line-room .ensures in
     let number = head .loop .number in
     let found = ap (λ (k : ℕ). head .loop .from + k) (read .0) in (
       turn _ _ _ _ r found (read .1) (head .loop .inv .1) (omega (arith, read .1, few, start .pre .1 .0)) (omega (arith, test, room))
-          (good-printed state number _ is (did .0) (c .before .before .before .before .before .number2 .ensures) (c .before .before .write-line9 .ensures)) (good-state state number _ is (did .0)) (did .1),
+          (good-printed state number _ is (did .0) (c .before .before .before .before .before .number .ensures) (c .before .before .write-line8 .ensures)) (good-state state number _ is (did .0)) (did .1),
       as-long state number _ is (did .0) ∙ head .loop .inv .1,
     )
 
-add-at-9 : tie.Need-add-at-9 Inv-loop μ-loop
-add-at-9 c =
-    omega (arith, loop-again-9 c .0 .room, out-small (c .before .before .before .before .before .before .before .before .before .before .before .before .before .before .before .before .before .before .before .before .before .before .before))
+add-at-8 : tie.Need-add-at-8 Inv-loop μ-loop
+add-at-8 c =
+    omega (arith, loop-again-8 c .0 .room, out-small (c .before .before .before .before .before .before .before .before .before .before .before .before .before .before .before .before .before .before .before .before .before .before .before))
 
 same-length-3 : tie.Need-same-length-3 Inv-loop μ-loop
 same-length-3 c = c .before .loop .inv .1
@@ -976,8 +898,11 @@ feed-spec =
     add-from-6
     loop-less-6
     loop-again-6
-    step-requires
-    number-requires
+    sends-at-once-requires-2
+    comes-to-requires
+    len-requires-2
+    add-if11
+    emit-requires
     sub-write-line-7
     part-write-line-start-7
     part-write-line-end-7
@@ -987,11 +912,8 @@ feed-spec =
     add-from-7
     loop-less-7
     loop-again-7
-    sends-at-once-requires-2
-    comes-to-requires
-    len-requires-2
-    add-if11
-    emit-requires
+    step-requires
+    number-requires
     sub-write-line-8
     part-write-line-start-8
     part-write-line-end-8
@@ -1001,17 +923,6 @@ feed-spec =
     add-from-8
     loop-less-8
     loop-again-8
-    step-requires-2
-    number-requires-2
-    sub-write-line-9
-    part-write-line-start-9
-    part-write-line-end-9
-    write-line-requires-9
-    add-at-9
-    add-number-9
-    add-from-9
-    loop-less-9
-    loop-again-9
     same-length-3
     same-length-4
     returns-2)
