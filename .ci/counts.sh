@@ -1,4 +1,4 @@
-# How the gate counts, for .ci/run and tests/run: each check is counted by its name, and the last line has the sums.
+# How .ci/run and the tests that it calls count: each check by its name, and the last line has the sums.
 passed=0
 failed=0
 
@@ -9,7 +9,7 @@ give_up() {
 }
 
 # Every tool that the gate uses is looked for before the proofs, which take minutes.
-for tool in rt cargo rustc awk bash cat chmod cmp cp env grep head mkdir mktemp rm tail tee timeout tr wc; do
+for tool in rt cargo rustc awk bash cat chmod cmp cp diff env grep head mkdir mktemp rm tail tee timeout tr wc; do
     command -v "$tool" >/dev/null || give_up "$tool is needed and not installed"
 done
 

@@ -10,6 +10,7 @@ gives "a line feed alone is a bad line" '\n' '1\t9\t-\n'
 gives "the last line may lack its line feed" 'T\nK\t1E\t1' '1\t0\t-\n2\t0\t1E\n'
 gives "a NUL byte makes a line bad" 'T\0\n\0\n\0T\nB\t1\0003\nT' '1\t9\t-\n2\t9\t-\n3\t9\t-\n4\t9\t-\n5\t0\t-\n'
 gives "a carriage return makes a line bad" 'T\r\nK\t1E\t1\r\n\r\nK\t1E\t1' '1\t9\t-\n2\t9\t-\n3\t9\t-\n4\t0\t1E\n'
+gives "questions are bad lines here" 'B\t13\nK\t1E\t1\n?\tqueue\n?\nB\t11' '1\t0\t-\n2\t0\t-\n3\t9\t-\n4\t9\t-\n5\t0\t1E\n'
 
 # The program and the model give the same for a file. Reads from a file come in whole blocks, those from a pipe do not.
 as_model() { timeout 60 target/bin/ikbd <"$1" | cmp - <("$models/model" <"$1"); }
@@ -44,12 +45,12 @@ count "input that ends without a line feed at and about the end of a block, in a
 # The most that is ever due: a full queue, held motion of both axes as key strokes, and a reply.
 {
     printf 'B\t0A\nB\t01\nB\t01\nB\t13\n'
-    for ((key = 0; key < 128; key++)); do printf 'K\t1E\t1\n'; done
-    for ((turn = 0; turn < 31; turn++)); do printf 'M\t64\t64\n'; done
-    printf 'M\t48\t48\nB\t88\n'
+    for ((key = 0; key < queue_room; key++)); do printf 'K\t1E\t1\n'; done
+    for ((turn = 0; turn < held_limit / 64; turn++)); do printf 'M\t64\t64\n'; done
+    printf 'M\t%d\t%d\nB\t88\n' $((held_limit % 64)) $((held_limit % 64))
 } >"$room/most"
-as_model "$room/most" && [ "$(target/bin/ikbd <"$room/most" | tail -n 1 | wc -c)" -eq $((6 + 2 * 8264 + 1)) ]
-count "8,264 bytes in one line of output" $?
+as_model "$room/most" && [ "$(target/bin/ikbd <"$room/most" | tail -n 1 | wc -c)" -eq $((6 + 2 * most_due + 1)) ]
+count "$(with_comma "$most_due") bytes in one line of output" $?
 
 # The lines have more bytes than the program may have memory.
 long_line() { head -c 20000000 /dev/zero | tr '\0' T; }

@@ -2,8 +2,8 @@
 -- Assumes nothing.
 use Prim.Native.Nat.{ℕ, _+_, _/_, _%_, _≤_, _<_}
 use native.Mathlib.Omega.{arith}
-use mathlib.Core.Path.{_≡_, refl, sym}
-use mathlib.Core.Bool.{Bool, true, false, cond, _&&_, _||_, true≢false}
+use mathlib.Core.Path.{_≡_, refl}
+use mathlib.Core.Bool.{Bool, true, false, cond, _&&_, _||_}
 use mathlib.Core.List.{List}
 use lib.Dec.{eqb, leb, ltb}
 use lib.ListN.{getD}
@@ -11,7 +11,7 @@ use borrow.Author.Tests.{ltb-true, leb-true}
 use Rattle.output.proofs.Cases.{both-ways, and-true}
 use Rattle.clock.specs.declared.Clock.{Clock}
 use Rattle.clock.specs.Clock.{IsClock, month-length, first-day, next-year, next-month, next-day, next-hour, next-minute, next-second, tick}
-use Rattle.clock.specs.Setting.{to-bcd, from-bcd, field, set-to}
+use Rattle.clock.specs.Setting.{to-bcd, from-bcd, field, set-to, TwoDigits}
 
 -- a number between two others
 record Between (least most n : ℕ) : Type 0 where
@@ -37,6 +37,10 @@ month-bounds year month =
     month-cases (eqb month 2) (eqb (year % 4) 0) (eqb month 4 || eqb month 6 || eqb month 9 || eqb month 11)
     in
     (h .from-least, h .to-most)
+
+-- a date and time that exist have two digits in each field
+pub two-digits : (c : Clock) → IsClock c → TwoDigits c
+two-digits c h = omega (arith, month-bounds (c .year) (c .month))
 
 -- power-up's date exists
 pub first-is : IsClock first-day

@@ -1,6 +1,6 @@
 -- Setting and reporting the clock: 0x1B and 0x1C.
-use Prim.Native.Nat.{ℕ, _+_, _*_, _/_, _%_, min}
-use mathlib.Core.Bool.{Bool, cond, _&&_}
+use Prim.Native.Nat.{ℕ, _+_, _*_, _/_, _%_, _≤_, min}
+use mathlib.Core.Bool.{cond, _&&_}
 use mathlib.Core.List.{List}
 use lib.Dec.{leb}
 use lib.ListN.{getD}
@@ -44,6 +44,15 @@ set-to ps c = settled (record {
   second = field 0 59 (c .second) (getD ps 5 0);
   hundredth = c .hundredth;
 })
+
+-- what "packed BCD" can show: two digits of each field
+pub record TwoDigits (c : Clock) : Type 0 where
+  pub year : c .year ≤ 99
+  pub month : c .month ≤ 99
+  pub day : c .day ≤ 99
+  pub hour : c .hour ≤ 99
+  pub minute : c .minute ≤ 99
+  pub second : c .second ≤ 99
 
 -- "0x1C sends 0xFC and six bytes."
 unfoldable pub report : Clock → Packet

@@ -3,8 +3,8 @@ ghost use mathlib.Core.Path.{_≡_};
 ghost use Prim.Native.Nat.{_≤_, min};
 ghost use Rattle.output.specs.Packets.{bytes-of};
 ghost use Rattle.output.specs.Short.{short-of};
-ghost use Rattle.clock.specs.Clock.{IsClock, first-day, month-length, next-day, tick};
-ghost use Rattle.clock.specs.Setting.{to-bcd, field, set-to, report};
+ghost use Rattle.clock.specs.Clock.{first-day, month-length, next-day, tick};
+ghost use Rattle.clock.specs.Setting.{TwoDigits, to-bcd, field, set-to, report};
 use output::Short;
 
 pub struct Clock {
@@ -84,26 +84,23 @@ impl Clock {
 
     // 0x1B with its six bytes. A field whose byte is no number in its range is left, and so the day may lie past the
     // end of the month that was set: it becomes the last.
-    pub fn set_to(self, params: [u8; 6]) -> Self
+    pub fn set_to(mut self, params: [u8; 6]) -> Self
         ensures { λ r. ⌜ r ≡ set-to params self ⌝ }
     {
-        let year = field(0, 99, self.year, params[0]);
-        let month = field(1, 12, self.month, params[1]);
+        self.year = field(0, 99, self.year, params[0]);
+        self.month = field(1, 12, self.month, params[1]);
         let day = field(1, 31, self.day, params[2]);
-        Clock {
-            year,
-            month,
-            day: smaller(day, month_length(year, month)),
-            hour: field(0, 23, self.hour, params[3]),
-            minute: field(0, 59, self.minute, params[4]),
-            second: field(0, 59, self.second, params[5]),
-            hundredth: 0,
-        }
+        self.day = smaller(day, month_length(self.year, self.month));
+        self.hour = field(0, 23, self.hour, params[3]);
+        self.minute = field(0, 59, self.minute, params[4]);
+        self.second = field(0, 59, self.second, params[5]);
+        self.hundredth = 0;
+        self
     }
 
     // What 0x1C sends.
     pub fn report(self) -> Short
-        requires { ⌜ IsClock self ⌝ }
+        requires { ⌜ TwoDigits self ⌝ }
         ensures { λ r. ⌜ r ≡ short-of (bytes-of (report self)) ⌝ }
     {
         Short {
@@ -122,7 +119,8 @@ impl Clock {
     }
 }
 
-fn month_length(year: u8, month: u8) -> u8
+// How many days a month has.
+pub fn month_length(year: u8, month: u8) -> u8
     ensures { λ r. ⌜ r ≡ month-length year month ⌝ }
 {
     match month {

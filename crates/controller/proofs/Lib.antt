@@ -7,8 +7,6 @@ pub mod Examples
 pub mod Answers
 pub mod Results
 pub mod Tells
-pub mod Hands
 pub mod Hosts
-pub mod Stepping
-pub mod Singly
-pub mod Obeying
+pub mod Writers
+pub mod Applying

@@ -1,15 +1,15 @@
 -- The states that the step hands back are those of the definition, part by part; and what was written is what is due.
 -- Assumes nothing.
-use Prim.Native.Nat.{ℕ, _+_, _-_, _≤_, _<_}
+use Prim.Native.Nat.{ℕ, _+_, _-_, _≤_}
 use native.Mathlib.Omega.{arith}
-use mathlib.Core.Path.{_≡_, refl, sym, ap, ap₂, _∙_, subst}
-use mathlib.Core.Bool.{Bool, true, false, cond, not, _&&_, true≢false, false≢true}
-use mathlib.Core.List.{List, [], _∷_, _++_, append-assoc, append-nil}
-use lib.ListN.{length, take, drop, replicate, length-append, length-take, length-drop, length-replicate, replicate-append-replicate}
+use mathlib.Core.Path.{_≡_, refl, sym, ap, ap₂, _∙_}
+use mathlib.Core.Bool.{Bool, true, false, cond}
+use mathlib.Core.List.{[], List, _++_, append-assoc}
+use lib.ListN.{length, take, drop, replicate, length-append, length-replicate, replicate-append-replicate}
 use lib.Seq.{length-take-le, drop-at}
 use Rattle.output.specs.Packets.{bytes}
-use Rattle.output.specs.Short.{short-bytes, short-of, short-room}
-use Rattle.output.specs.Writing.{over, Wrote}
+use Rattle.output.specs.Short.{short-bytes, short-room}
+use Rattle.output.specs.Writing.{over}
 use Rattle.output.proofs.Packets.{bytes-append}
 use Rattle.output.proofs.Runs.{short-back}
 use Rattle.protocol.specs.declared.Meaning.{Meaning}
@@ -19,22 +19,20 @@ use Rattle.protocol.specs.Reading.{no-command}
 use Rattle.protocol.specs.Commands.{sets}
 use Rattle.mouse.specs.declared.Mouse.{Mouse}
 use Rattle.mouse.specs.declared.Moved.{Moved}
-use Rattle.mouse.specs.Reports.{MouseDue, quiet}
-use Rattle.mouse.specs.Moves.{released}
-use Rattle.mouse.specs.Sending.{packets-sent, MovedAs}
+use Rattle.mouse.specs.Sending.{packets-sent}
+use Rattle.mouse.specs.Moves.{resumed}
+use Rattle.mouse.specs.Handing.{moved-of}
+use Rattle.mouse.proofs.Dues.{sent-due, resumed-others}
 use Rattle.controller.specs.declared.Queue.{Queue}
 use Rattle.controller.specs.declared.State.{State}
 use Rattle.controller.specs.declared.Input.{Input}
-use Rattle.controller.specs.declared.Happening.{Happening}
 use Rattle.controller.specs.declared.Acted.{Acted}
-use Rattle.controller.specs.State.{IsState, IsQueue, OneQueue, contents, queue-of, queue-room, empty-queue}
-use Rattle.controller.specs.Host.{Due, Effect, effect, resumed-packets, resumed-mouse, acted}
+use Rattle.controller.specs.State.{IsQueue, OneQueue, contents, queue-of, queue-room, empty-queue}
+use Rattle.controller.specs.Host.{Effect, effect, resumed-packets, resumed-mouse, acted}
 use Rattle.controller.specs.Events.{happened, event, event-due}
-use Rattle.controller.specs.Handing.{HappensAs, acted-of}
+use Rattle.controller.specs.Handing.{acted-of}
 use Rattle.controller.proofs.Lengths.{effect-length}
-
-abbrev pub effect-on : Input → State → Effect
-effect-on i s = event i (s .paused) (s .settings) (s .mouse) (s .sticks) (s .clock)
+use Rattle.controller.proofs.Answers.{effect-on}
 
 -- zeros with bytes over their start
 over-zeros : (bs : List ℕ) (n : ℕ) → length bs ≤ n → over bs (replicate n 0) ≡ bs ++ replicate (n - length bs) 0
@@ -70,55 +68,6 @@ queue-grown p q bs h one fits = λ i. record { bytes = content i; len = size i }
         ∙ ap (λ (n : ℕ). contents q ++ (bs ++ replicate n 0)) rest
         ∙ sym (append-assoc (contents q) bs (replicate (queue-room - length (contents q ++ bs)) 0))
 
--- An event that is sent at once: the parts are the event's, and the queue is as it was.
-pub sent-state : (i : Input) (s : State) (h : Happening) → HappensAs (effect-on i s) h → s .paused ≡ false →
-    _≡_ {A = State} (record {
-      settings = s .settings;
-      command = s .command;
-      paused = s .paused;
-      queue = s .queue;
-      mouse = h .mouse;
-      sticks = h .sticks;
-      clock = h .clock;
-    }) (event-due i s .state)
-unfolding event-due happened
-sent-state i s h a p =
-    let q = ap (λ (t : Bool). cond t (queue-of (contents (s .queue) ++ bytes (effect-on i s .packets))) (s .queue)) (sym p) in
-    λ j. record {
-      settings = s .settings;
-      command = s .command;
-      paused = s .paused;
-      queue = q j;
-      mouse = a .mouse j;
-      sticks = a .sticks j;
-      clock = a .clock j;
-    }
-
--- An event that is queued: its bytes stand behind those that wait.
-pub queued-state : (i : Input) (s : State) (h : Happening) (q : Queue) → HappensAs (effect-on i s) h → s .paused ≡ true →
-    q ≡ queue-of (contents (s .queue) ++ bytes (effect-on i s .packets)) →
-    _≡_ {A = State} (record {
-      settings = s .settings;
-      command = s .command;
-      paused = s .paused;
-      queue = q;
-      mouse = h .mouse;
-      sticks = h .sticks;
-      clock = h .clock;
-    }) (event-due i s .state)
-unfolding event-due happened
-queued-state i s h q a p e =
-    let g = e ∙ ap (λ (t : Bool). cond t (queue-of (contents (s .queue) ++ bytes (effect-on i s .packets))) (s .queue)) (sym p) in
-    λ j. record {
-      settings = s .settings;
-      command = s .command;
-      paused = s .paused;
-      queue = g j;
-      mouse = a .mouse j;
-      sticks = a .sticks j;
-      clock = a .clock j;
-    }
-
 -- what an event that is sent writes, and what one that is queued writes
 pub sent-bytes : (i : Input) (s : State) → s .paused ≡ false → bytes (effect-on i s .packets) ≡ event-due i s .written
 unfolding event-due happened
@@ -128,25 +77,16 @@ pub queued-bytes : (i : Input) (s : State) → s .paused ≡ true → [] ≡ eve
 unfolding event-due happened
 queued-bytes i s p = ap (λ (t : Bool). cond t [] (bytes (effect-on i s .packets))) (sym p)
 
--- the length of what an event comes to, as the code counts it
-pub event-length : (i : Input) (s : State) (h : Happening) {n : ℕ} → HappensAs (effect-on i s) h → n ≡ length (bytes (packets-sent (h .sending))) →
-    n + h .short .len ≡ length (bytes (effect-on i s .packets))
-event-length i s h a e =
-    let short : length (short-bytes (h .short)) ≡ h .short .len = length-take-le (h .short .len) (h .short .bytes) (omega (arith, a .short .len, a .short .room)) in
-    omega (arith, ap length (a .bytes), length-append (bytes (packets-sent (h .sending))) (short-bytes (h .short)))
-
 -- A command that acts, after the resume if output is paused.
-resumed : (p : Bool) (d : MouseDue) (m : Mouse) → ((cond p d (quiet m)) .packets ≡ cond p (d .packets) []) × ((cond p d (quiet m)) .mouse ≡ cond p (d .mouse) m)
-resumed true d m = (refl, refl)
-resumed false d m = (refl, refl)
-
-module _ (m : Meaning) (ps : List ℕ) (s : State) (v : Moved) (a : Acted) (mv : MovedAs (cond (s .paused) (released (s .settings) (s .mouse)) (quiet (s .mouse))) v)
+module _ (m : Meaning) (ps : List ℕ) (s : State) (v : Moved) (a : Acted) (mv : v ≡ moved-of (resumed (s .paused) (s .settings) (s .mouse)))
     (ac : a ≡ acted-of (effect m ps (s .settings) (v .mouse) (s .sticks) (s .clock))) where
   pub moved-packets : packets-sent (v .sending) ≡ resumed-packets s
-  moved-packets = mv .packets ∙ resumed (s .paused) (released (s .settings) (s .mouse)) (s .mouse) .0
+  moved-packets =
+      ap (λ (x : Moved). packets-sent (x .sending)) mv
+      ∙ sym (sent-due (resumed (s .paused) (s .settings) (s .mouse)) (resumed-others (s .paused) (s .settings) (s .mouse)))
 
   moved-mouse : v .mouse ≡ resumed-mouse s
-  moved-mouse = mv .mouse ∙ resumed (s .paused) (released (s .settings) (s .mouse)) (s .mouse) .1
+  moved-mouse = ap (λ (x : Moved). x .mouse) mv
 
   effect-is : a ≡ acted-of (effect m ps (s .settings) (resumed-mouse s) (s .sticks) (s .clock))
   effect-is = ac ∙ ap (λ (x : Mouse). acted-of (effect m ps (s .settings) x (s .sticks) (s .clock))) moved-mouse

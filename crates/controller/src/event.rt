@@ -7,26 +7,20 @@ ghost use lib.IntN.{natAbs};
 ghost use Rattle.output.specs.ScanCodes.{last-key};
 ghost use Rattle.output.specs.Packets.{bytes};
 ghost use Rattle.output.specs.Short.{short-of};
-ghost use Rattle.mouse.specs.Mouse.{WithinLimit};
 ghost use Rattle.sticks.specs.Sticks.{IsSticks, OneSticks, told-of};
-ghost use Rattle.sticks.specs.Events.{moved};
-ghost use Rattle.controller.specs.Events.{event, key-packets, stick-of};
-ghost use Rattle.controller.specs.Handing.{HappensAs, of-told};
-ghost use Rattle.controller.specs.Step.{in-range, up-to, too-far};
-use crate::Happening;
+ghost use Rattle.sticks.specs.Events.{stick-moved};
+ghost use Rattle.sticks.specs.Ticks.{sampled};
+ghost use Rattle.controller.specs.Events.{key-packets, stick-of};
+ghost use Rattle.controller.specs.Step.{in-range, up-to};
 use crate::Input;
-use clock::Clock;
 use motion::Motion;
-use mouse::Mouse;
-use mouse::Sending;
+use output::ScanCode;
 use output::Short;
 use protocol::Settings;
 use sticks::Stick;
 use sticks::Sticks;
 use sticks::SticksTold;
 
-// The last key of the keyboard.
-const LAST_KEY: u8 = 0x72;
 // The most motion that one event brings along an axis.
 const MOST_MOVE: u16 = 64;
 
@@ -51,7 +45,7 @@ fn up_to(most: u16, z: i16) -> bool
     false
 }
 
-fn stick_in_range(stick: i16, position: i16, trigger: i16) -> bool
+pub(crate) fn stick_in_range(stick: i16, position: i16, trigger: i16) -> bool
     ensures { λ r. ⌜ r ≡ in-range (Input.Joystick stick position trigger) ⌝ }
 {
     if up_to(1, stick) {
@@ -63,49 +57,42 @@ fn stick_in_range(stick: i16, position: i16, trigger: i16) -> bool
     false
 }
 
-// The first refusal is for numbers outside these ranges.
-pub(crate) fn in_range(input: Input) -> bool
-    ensures { λ r. ⌜ r ≡ in-range input ⌝ }
+pub(crate) fn key_in_range(code: u8) -> bool
+    ensures { λ r. ⌜ r ≡ in-range (Input.Key code true) ⌝ }
 {
-    match input {
-        Input::Byte(_) => true,
-        Input::Key { code, down: _ } => {
-            if code < 1 {
-                return false;
-            }
-            code <= LAST_KEY
-        }
-        Input::Button { side: _, down: _ } => true,
-        Input::Move { dx, dy } => {
-            if number(dx) <= MOST_MOVE {
-                return number(dy) <= MOST_MOVE;
-            }
-            false
-        }
-        Input::Joystick {
-            stick,
-            position,
-            trigger,
-        } => stick_in_range(stick, position, trigger),
-        Input::Sample(b) => up_to(1, b),
-        Input::Tick => true,
+    if code < ScanCode::FIRST_KEY {
+        return false;
     }
+    code <= ScanCode::LAST_KEY
 }
 
-// The third refusal is for motion that would be held beyond its limit while output is paused.
-pub(crate) fn too_far(input: Input, settings: Settings, mouse: Mouse) -> bool
-    requires { ⌜ in-range input ≡ true ⌝ }
-    requires { ⌜ WithinLimit mouse ⌝ }
-    ensures { λ r. ⌜ r ≡ too-far input settings mouse ⌝ }
+pub(crate) fn move_in_range(dx: i16, dy: i16) -> bool
+    ensures { λ r. ⌜ r ≡ in-range (Input.Move dx dy) ⌝ }
 {
-    if let Input::Move { dx, dy } = input {
-        return mouse.overflows(settings, dx, dy);
+    if number(dx) <= MOST_MOVE {
+        return number(dy) <= MOST_MOVE;
     }
     false
 }
 
+pub(crate) fn sample_in_range(b: i16) -> bool
+    ensures { λ r. ⌜ r ≡ in-range (Input.Sample b) ⌝ }
+{
+    up_to(1, b)
+}
+
+// A sample's number, which is in range.
+pub(crate) fn sample_told(paused: bool, settings: Settings, sticks: Sticks, b: i16) -> SticksTold
+    requires { ⌜ in-range (Input.Sample b) ≡ true ⌝ }
+    requires { ⌜ IsSticks (settings .stick) sticks ⌝ }
+    requires { ⌜ OneSticks sticks ⌝ }
+    ensures { λ r. ⌜ r ≡ told-of (sampled paused settings (natAbs b) sticks) ⌝ }
+{
+    sticks.sampled(paused, settings, number(b) as u8)
+}
+
 // A key sends its scan code, but in the monitoring modes.
-fn key_bytes(settings: Settings, code: u8, down: bool) -> Short
+pub(crate) fn key_bytes(settings: Settings, code: u8, down: bool) -> Short
     requires { ⌜ code ≤ last-key ⌝ }
     ensures { λ r. ⌜ r ≡ short-of (bytes (key-packets settings code down)) ⌝ }
 {
@@ -117,7 +104,7 @@ fn key_bytes(settings: Settings, code: u8, down: bool) -> Short
 }
 
 // A stick event's three numbers, which are in range.
-fn stick_told(
+pub(crate) fn stick_told(
     settings: Settings,
     sticks: Sticks,
     stick: i16,
@@ -126,102 +113,12 @@ fn stick_told(
 ) -> SticksTold
     requires { ⌜ in-range (Input.Joystick stick position trigger) ≡ true ⌝ }
     requires { ⌜ IsSticks (settings .stick) sticks ⌝ }
-    ensures { λ r. ⌜ r ≡ told-of (moved settings (eqb (natAbs stick) 1) (stick-of position trigger) sticks) ⌝ }
+    ensures { λ r. ⌜ r ≡ told-of (stick-moved settings (eqb (natAbs stick) 1) (stick-of position trigger) sticks) ⌝ }
 {
     let one = number(stick) == 1;
     let new = Stick {
         position: number(position) as u8,
         trigger: number(trigger) == 1,
     };
-    sticks.moved(settings, one, new)
-}
-
-// What an event comes to. It is long because each kind of event has its arm here, none of them longer than a few fields, so that all
-// of them are seen side by side.
-pub(crate) fn happens(
-    input: Input,
-    paused: bool,
-    settings: Settings,
-    mouse: Mouse,
-    sticks: Sticks,
-    clock: Clock,
-) -> Happening
-    requires { ⌜ in-range input ≡ true ⌝ }
-    requires { ⌜ WithinLimit mouse ⌝ }
-    requires { ⌜ IsSticks (settings .stick) sticks ⌝ }
-    requires { ⌜ OneSticks sticks ⌝ }
-    ensures { λ r. ⌜ HappensAs (event input paused settings mouse sticks clock) r ⌝ }
-{
-    match input {
-        Input::Byte(_) => Happening {
-            sending: Sending::none(),
-            short: Short::none(),
-            mouse: mouse,
-            sticks: sticks,
-            clock: clock,
-        },
-        Input::Key { code, down } => Happening {
-            sending: Sending::none(),
-            short: key_bytes(settings, code, down),
-            mouse: mouse,
-            sticks: sticks,
-            clock: clock,
-        },
-        Input::Button { side, down } => {
-            let p = mouse.presses(settings, side, down);
-            let sending = p.sending;
-            let short = p.short;
-            let m = p.mouse;
-            Happening {
-                sending: sending,
-                short: short,
-                mouse: m,
-                sticks: sticks,
-                clock: clock,
-            }
-        }
-        Input::Move { dx, dy } => {
-            let p = mouse.moves(paused, settings, dx, dy);
-            let sending = p.sending;
-            let m = p.mouse;
-            Happening {
-                sending: sending,
-                short: Short::none(),
-                mouse: m,
-                sticks: sticks,
-                clock: clock,
-            }
-        }
-        Input::Joystick {
-            stick,
-            position,
-            trigger,
-        } => {
-            let t = stick_told(settings, sticks, stick, position, trigger);
-            told(t, mouse, clock)
-        }
-        Input::Sample(b) => {
-            let t = sticks.sampled(paused, settings, number(b) as u8);
-            told(t, mouse, clock)
-        }
-        Input::Tick => {
-            let t = sticks.ticked(paused, settings);
-            told(t, mouse, clock.tick())
-        }
-    }
-}
-
-// What the joysticks tell, with the parts that they leave.
-fn told(t: SticksTold, mouse: Mouse, clock: Clock) -> Happening
-    ensures { λ r. ⌜ r ≡ of-told t mouse clock ⌝ }
-{
-    let short = t.short;
-    let sticks = t.sticks;
-    Happening {
-        sending: Sending::none(),
-        short: short,
-        mouse: mouse,
-        sticks: sticks,
-        clock: clock,
-    }
+    sticks.stick_moved(settings, one, new)
 }

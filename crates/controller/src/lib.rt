@@ -1,19 +1,16 @@
-mod alone;
+mod apply;
 mod command;
 mod event;
-mod obey;
+mod send;
 mod step;
-
-pub use obey::Obeyed;
-pub use step::emit;
 
 // The controller: its state, what goes in and what comes out of a step.
 ghost use mathlib.Core.Path.{_≡_};
-ghost use Rattle.controller.specs.State.{power-up, empty-queue, limits};
+ghost use Rattle.controller.specs.State.{power-up, reset-but, limits};
 ghost use Rattle.controller.specs.Step.{number};
+ghost use Rattle.controller.specs.Applying.{core-of, joined};
 use clock::Clock;
 use mouse::Mouse;
-use mouse::Sending;
 use mouse::Side;
 use output::Short;
 use protocol::Command;
@@ -82,13 +79,30 @@ pub struct Limits {
     pub buffer: usize,
 }
 
-// What an event comes to before it is sent or queued: held motion that is sent, a short run of bytes, and the parts afterwards.
-pub struct Happening {
-    pub sending: Sending,
-    pub short: Short,
+// The state without its queue, whose bytes are lent beside it: nothing that is handed on grows with the queue's room.
+pub struct Core {
+    pub settings: Settings,
+    pub command: Command,
+    pub paused: bool,
     pub mouse: Mouse,
     pub sticks: Sticks,
     pub clock: Clock,
+}
+
+// What an input came to: `count` bytes stand at the start of the lent buffer, and `waiting` bytes at the start of the lent queue.
+pub struct Applied {
+    pub answer: Answer,
+    pub count: usize,
+    pub waiting: usize,
+    pub core: Core,
+}
+
+// What became of bytes that fell due: whether they were taken, and the answer, count and `waiting` of the input then.
+pub(crate) struct Sent {
+    taken: bool,
+    answer: Answer,
+    count: usize,
+    waiting: usize,
 }
 
 // What an executed command does besides the settings: its own packet, and the parts afterwards.
@@ -117,13 +131,45 @@ impl Answer {
 impl Queue {
     // How many bytes the queue takes.
     pub const ROOM: usize = 128;
+}
 
-    pub fn empty() -> Self
-        ensures { λ r. ⌜ r ≡ empty-queue ⌝ }
+impl Core {
+    // Everything but the clock is as at power-up.
+    pub(crate) fn reset_but(clock: Clock) -> Self
+        ensures { λ r. ⌜ r ≡ core-of (reset-but clock) ⌝ }
     {
-        Queue {
-            bytes: [0; Queue::ROOM],
-            len: 0,
+        Core {
+            settings: Settings::power_up(),
+            command: Command::none(),
+            paused: false,
+            mouse: Mouse::power_up(),
+            sticks: Sticks::power_up(),
+            clock: clock,
+        }
+    }
+
+    // The whole state again, with the first `waiting` bytes of a queue waiting.
+    pub fn with_queue(self, bytes: [u8; Queue::ROOM], waiting: usize) -> State
+        ensures { λ r. ⌜ r ≡ joined self bytes waiting ⌝ }
+    {
+        let settings = self.settings;
+        let command = self.command;
+        let paused = self.paused;
+        let mouse = self.mouse;
+        let sticks = self.sticks;
+        let clock = self.clock;
+        let queue = Queue {
+            bytes,
+            len: waiting,
+        };
+        State {
+            settings,
+            command,
+            paused,
+            queue,
+            mouse,
+            sticks,
+            clock,
         }
     }
 }
@@ -148,14 +194,25 @@ impl State {
     pub fn power_up() -> Self
         ensures { λ r. ⌜ r ≡ power-up ⌝ }
     {
-        State {
-            settings: Settings::power_up(),
-            command: Command::none(),
-            paused: false,
-            queue: Queue::empty(),
-            mouse: Mouse::power_up(),
-            sticks: Sticks::power_up(),
-            clock: Clock::power_up(),
+        Core::reset_but(Clock::power_up()).with_queue([0; Queue::ROOM], 0)
+    }
+
+    // The state without its queue.
+    pub fn core(self) -> Core
+        ensures { λ r. ⌜ r ≡ core-of self ⌝ }
+    {
+        let settings = self.settings;
+        let command = self.command;
+        let mouse = self.mouse;
+        let sticks = self.sticks;
+        let clock = self.clock;
+        Core {
+            settings,
+            command,
+            paused: self.paused,
+            mouse,
+            sticks,
+            clock,
         }
     }
 }

@@ -1,38 +1,98 @@
--- Demand 2 over calls of the step in code, each known by its promise alone.
+-- The three demands over calls of the step in code, each known by its promise alone: calls come to what the definition says.
 -- Assumes nothing.
 use Prim.Native.Nat.{ℕ}
+use native.Mathlib.Omega.{arith}
 use mathlib.Core.Path.{_≡_, refl, sym, ap, ap₂, _∙_, subst}
-use mathlib.Core.List.{List, [], _∷_, _++_, append-nil}
-use lib.ListN.{length, take, drop}
-use lib.Seq.{take-at}
-use Rattle.output.specs.Packets.{bytes}
+use mathlib.Core.Bool.{cond, _&&_}
+use mathlib.Core.List.{List, [], _∷_, map}
+use lib.Dec.{eqb}
+use lib.ListN.{length, take}
+use lib.Seq.{take-append-seam, drop-append-seam}
 use Rattle.output.specs.Writing.{over}
-use Rattle.output.proofs.Packets.{bytes-append}
+use Rattle.output.proofs.Writing.{length-over}
+use Rattle.protocol.specs.Replies.{in-order}
 use Rattle.controller.specs.declared.State.{State}
+use Rattle.controller.specs.declared.Input.{Input}
+use Rattle.controller.specs.declared.Stepped.{Stepped}
 use Rattle.controller.specs.State.{IsState, contents}
-use Rattle.controller.specs.Step.{Did, step}
-use Rattle.controller.proofs.Delivery.{step-delivers}
+use Rattle.controller.specs.Step.{number, Did, due, told, verdict, step}
+use Rattle.controller.specs.Sequences.{after, history, done, resets-by}
+use Rattle.controller.proofs.Answers.{step-fits, did-answer, did-write}
+use Rattle.controller.proofs.Delivery.{step-drops}
 use Rattle.controller.proofs.States.{keeps}
-use Rattle.demands.specs.Calls.{Call, bytes-of-call, due-in-calls, gone-in-calls, Demand2-of-calls}
-use Rattle.demands.proofs.Demand2.{joined}
+use Rattle.demands.specs.Demand1.{ByTable}
+use Rattle.demands.specs.Demand2.{Flow, flow, flows-in}
+use Rattle.demands.specs.Demand3.{Seen, seen, seen-in, Asking, SendingBack}
+use Rattle.demands.specs.Calls.{Call, Promised, Calls, answer-of, turn-of, flow-of, flows-of, seen-of, Demand1-of-calls, Demand2-of-calls, Demand2-whole-of-calls, Demand3-of-calls}
+use Rattle.demands.proofs.Demand1.{demand-1}
+use Rattle.demands.proofs.Demand2.{demand-2, demand-2-whole}
+use Rattle.demands.proofs.PutBack.{put-back}
 
--- a call wrote what the definition says
-pub call-wrote : (s : State) (c : Call) → Did s (c .input) (c .before) (c .result) (c .buffer) → bytes-of-call c ≡ step s (c .input) (length (c .before)) .written
+-- a call, as a step of a sequence
+module _ (s : State) (c : Call) (p : Promised s c) where
+  seen-is : seen-of c ≡ seen (done s (turn-of c))
+  seen-is = λ i. record { input = c .input; answer = did-answer s (c .input) p i; written = did-write s (c .input) p i }
+
+  dropped-is : cond (eqb (answer-of c) 0 && resets-by s (c .input)) (contents (s .queue)) [] ≡ step s (c .input) (length (c .before)) .dropped
+  dropped-is = rw (did-answer s (c .input) p) (sym (step-drops s (c .input) (length (c .before))))
+
+  flow-is : flow-of s c ≡ flow (done s (turn-of c))
+  flow-is = λ i. record { due = step s (c .input) (length (c .before)) .packets; dropped = dropped-is i; written = did-write s (c .input) p i }
+
+-- calls one after the other come to what the definition says of the sequence
+record Ran (s : State) (cs : List Call) (t : State) : Type 0 where
+  seen-then : map seen-of cs ≡ seen-in s (map turn-of cs)
+  flows-then : flows-of s cs ≡ flows-in s (map turn-of cs)
+  state-then : t ≡ after s (map turn-of cs)
+
+ran : (s t : State) (cs : List Call) → Calls s cs t → Ran s cs t
+unfolding history after flows-of
+ran s t [] e = record { seen-then = refl; flows-then = refl; state-then = e }
+ran s t (c ∷ cs) (p, k) =
+    let r = ran (c .result .state) t cs k in
+    record {
+      seen-then = ap₂ (λ (d : Seen) (l : List Seen). d ∷ l) (seen-is s c p) (r .seen-then ∙ ap (λ (x : State). seen-in x (map turn-of cs)) (p .state));
+      flows-then = ap₂ (λ (d : Flow) (l : List Flow). d ∷ l) (flow-is s c p) (r .flows-then ∙ ap (λ (x : State). flows-in x (map turn-of cs)) (p .state));
+      state-then = r .state-then ∙ ap (λ (x : State). after x (map turn-of cs)) (p .state);
+    }
+
+-- demand 1, for calls of the step in code
+pub demand-1-calls : Demand1-of-calls
 unfolding over
-call-wrote s c p =
-    let w = step s (c .input) (length (c .before)) .written in
-    rw (p .buffer) (take-at w (drop (length w) (c .before)) (c .result .count) (sym (p .count)))
+demand-1-calls s c h x p =
+    let lent = length (c .before) in
+    let w = step s (c .input) lent .written in
+    let d = demand-1 s (c .input) lent h x in
+    let e : answer-of c ≡ step s (c .input) lent .answer = did-answer s (c .input) p in
+    record {
+      by-table = subst (λ (n : ℕ). ByTable s (c .input) lent n) (sym e) (d .by-table);
+      refused = λ no.
+          let k = d .refused (λ z. no (e ∙ z)) in
+          (p .count ∙ ap length (k .1), p .state ∙ k .0, p .buffer ∙ k .2 (c .before));
+      most = omega (arith, p .count, d .most);
+      within = omega (arith, p .count, step-fits s (c .input) lent);
+      as-long = ap length (p .buffer) ∙ length-over w (c .before) (step-fits s (c .input) lent);
+      past-count = rw (p .count, p .buffer) (drop-append-seam w _);
+      is-state = subst IsState (sym (p .state)) (keeps s (c .input) lent h x);
+    }
 
+-- demand 2, for calls of the step in code
 pub demand-2-calls : Demand2-of-calls
-unfolding due-in-calls gone-in-calls
-demand-2-calls s t [] h x e = append-nil (contents (s .queue)) ∙ ap (λ (z : State). contents (z .queue)) (sym e)
-demand-2-calls s t (c ∷ cs) h x (p, k) =
-    let o = step s (c .input) (length (c .before)) in
-    let next : IsState (c .result .state) = subst IsState (sym (p .state)) (keeps s (c .input) (length (c .before)) h (x .0)) in
-    let one =
-    step-delivers s (c .input) (length (c .before)) (h .ranges .queue)
-    ∙ ap (λ (l : List ℕ). o .dropped ++ l) (ap₂ (λ (w : List ℕ) (z : State). w ++ contents (z .queue)) (sym (call-wrote s c p)) (sym (p .state))) in
-    ap (λ (l : List ℕ). contents (s .queue) ++ l) (bytes-append (o .packets) (due-in-calls (c .result .state) cs))
-    ∙ joined (contents (s .queue)) (bytes (o .packets)) (bytes-of-call c) (o .dropped) (contents (c .result .state .queue))
-    (bytes (due-in-calls (c .result .state) cs)) (gone-in-calls (c .result .state) cs) (contents (t .queue))
-    one (demand-2-calls (c .result .state) t cs next (x .1) k)
+demand-2-calls s t cs h x k =
+    let r = ran s t cs k in
+    rw (r .flows-then, r .state-then) (demand-2 s (map turn-of cs) h x)
+
+pub demand-2-whole-calls : Demand2-whole-of-calls
+demand-2-whole-calls s t cs h x k =
+    let r = ran s t cs k in
+    rw (r .flows-then, r .state-then) (demand-2-whole s (map turn-of cs) h x)
+
+-- demand 3, for calls of the step in code
+pub put-back-calls : Demand3-of-calls
+put-back-calls s s′ t t′ asking sending kept S T A B x y =
+    let a = ran s s′ asking A in
+    let b = ran t t′ sending B in
+    ap (λ (c : State). c .settings) (b .state-then)
+    ∙ put-back s (map turn-of asking) kept t (map turn-of sending) S T
+    (subst (λ (h : List Seen). Asking s h kept) (a .seen-then) x)
+    (subst (λ (h : List Seen). SendingBack t h (in-order (s .settings .port0) kept)) (b .seen-then) y)

@@ -3,7 +3,7 @@
 use Prim.Native.Nat.{ℕ}
 use mathlib.Core.Path.{_≡_, refl, sym, ap, _∙_}
 use mathlib.Core.Bool.{Bool, true, false, cond}
-use mathlib.Core.List.{List, [], _∷_, _++_, map}
+use mathlib.Core.List.{List, [], _∷_}
 use Rattle.protocol.specs.declared.Meaning.{Meaning}
 use Rattle.protocol.specs.declared.Meaning.the-variants.{Nothing, Memory, Pause, Reset, OfMouse, OfStick, OfOther, Inquire}
 use Rattle.protocol.specs.Codes.{meaning-of}
@@ -18,14 +18,8 @@ use Rattle.controller.specs.declared.Answer.the-variants.{Taken, OutOfRange, Qu
 use Rattle.controller.specs.Host.{Due, silent, reading, acted, reset-due, executes, host-due}
 use Rattle.controller.specs.Events.{happened, event-due}
 use Rattle.controller.specs.Step.{due, told, verdict, step}
-use Rattle.controller.specs.Sequences.{Turn, Done, after, history, byte-taken, bytes-taken}
-use Rattle.demands.specs.Demand3.{taken, seen, seen-in}
-
--- the bytes taken, read off what is seen, are those taken
-pub taken-is : (h : List Done) → taken (map seen h) ≡ bytes-taken h
-unfolding taken bytes-taken
-taken-is [] = refl
-taken-is (d ∷ ds) = ap (λ (l : List ℕ). byte-taken (d .input) (d .out .answer) ++ l) (taken-is ds)
+use Rattle.controller.specs.Sequences.{Turn, after, history, byte-taken}
+use Rattle.demands.specs.Demand3.{taken, seen-in}
 
 -- what demand 3 sees of a state
 abbrev pub core : State → Core
@@ -49,7 +43,7 @@ executed-core (OfOther o) code ps s = refl
 executed-core (Inquire q) code ps s = refl
 
 -- a host byte, if it is taken
-host-core : (f : Fed) (s : State) → core (host-due f s .state) ≡ fed f s
+pub host-core : (f : Fed) (s : State) → core (host-due f s .state) ≡ fed f s
 unfolding host-due settings-after settings-then command-after
 host-core (half c) s = refl
 host-core (whole code ps) s = go (executed (meaning-of code) ps (s .settings))

@@ -7,15 +7,15 @@ use mathlib.Core.Logic.{_↔_}
 use mathlib.Core.Bool.{Bool, true, false, cond, true≢false, false≢true}
 use mathlib.Core.List.{List, []}
 use Rattle.output.specs.Writing.{over}
+use Rattle.output.proofs.Writing.{over-nil}
 use Rattle.controller.specs.declared.State.{State}
 use Rattle.controller.specs.declared.Input.{Input}
 use Rattle.controller.specs.declared.Answer.the-variants.{Taken, OutOfRange, QueueFull, MotionFull, BufferShort}
-use Rattle.controller.specs.State.{IsState}
 use Rattle.controller.specs.Host.{Due}
 use Rattle.controller.specs.Step.{due, out-of-range, queue-full, motion-full, buffer-short, verdict, told, step}
 use Rattle.controller.proofs.Refusals.{queue-or-motion, queue-or-buffer, motion-or-buffer, refusal-keeps}
 use Rattle.controller.proofs.Lengths.{most-written}
-use Rattle.demands.specs.Demand1.{Answered, Demand1}
+use Rattle.demands.specs.Demand1.{Demand1}
 
 -- the number of the first row that holds, and 0 where none does
 number : Bool → Bool → Bool → Bool → ℕ
@@ -87,10 +87,6 @@ answer-is : (s : State) (i : Input) (lent : ℕ) →
 unfolding step verdict
 answer-is s i lent = number-told (out-of-range s i lent) (queue-full s i lent) (motion-full s i lent) (buffer-short s i lent) s (due s i)
 
-over-none : (bs l : List ℕ) → bs ≡ [] → over bs l ≡ l
-unfolding over
-over-none bs l e = rw e
-
 pub demand-1 : Demand1
 demand-1 s i lent h x =
     let q = h .ranges .queue in
@@ -99,17 +95,19 @@ demand-1 s i lent h x =
     (numbered (out-of-range s i lent) (queue-full s i lent) (motion-full s i lent) (buffer-short s i lent)
     (queue-or-motion s i lent q) (queue-or-buffer s i lent q) (motion-or-buffer s i lent q)) in
     record {
-      one = n .one;
-      two = n .two;
-      three = n .three;
-      four = n .four;
-      taken = n .taken;
-      one-of-five = n .few;
-      two-not-three = queue-or-motion s i lent q;
-      two-not-four = queue-or-buffer s i lent q;
-      three-not-four = motion-or-buffer s i lent q;
+      by-table = record {
+        one = n .one;
+        two = n .two;
+        three = n .three;
+        four = n .four;
+        taken = n .taken;
+        one-of-five = n .few;
+        two-not-three = queue-or-motion s i lent q;
+        two-not-four = queue-or-buffer s i lent q;
+        three-not-four = motion-or-buffer s i lent q;
+      };
       refused = λ r.
           let k = refusal-keeps s i lent r in
-          (k .0, k .1, λ l. over-none (step s i lent .written) l (k .1));
+          (k .0, k .1, λ l. ap (λ (bs : List ℕ). over bs l) (k .1) ∙ sym (over-nil l));
       most = most-written s i lent h;
     }

@@ -1,13 +1,14 @@
 pub mod States
 pub mod Demand1
 pub mod Demand2
-pub mod Calls
 pub mod Core
 pub mod Asking
 pub mod PutBack
+pub mod Calls
 pub mod Witness3
 pub mod Rules
 pub mod Sessions
 pub mod MostDue
 pub mod Readings
+pub mod Idling
 pub mod ShutOut

@@ -1,14 +1,16 @@
 -- Sentences of document 01 that are easily read otherwise, each shown by a session from power-up, computed.
 -- Assumes nothing.
 use Prim.Native.Nat.{ℕ}
-use mathlib.Core.Path.{_≡_, refl}
-use mathlib.Core.Bool.{Bool, true, false}
+use mathlib.Core.Path.{refl}
+use mathlib.Core.Bool.{Bool, true}
 use mathlib.Core.List.{List, [], _∷_, _++_}
+use lib.IntN.{ℤ}
 use Rattle.mouse.specs.declared.Side.the-variants.{Left}
 use Rattle.controller.specs.declared.Input.{Input}
-use Rattle.controller.specs.declared.Input.the-variants.{Byte, Key, Button, Move, Joystick, Sample, Tick}
-use Rattle.controller.specs.State.{power-up, most-due}
+use Rattle.controller.specs.declared.Input.the-variants.{Key, Button}
+use Rattle.controller.specs.State.{power-up, queue-room, most-due}
 use Rattle.demands.specs.Sessions.{host, move, plus, minus, stick, tick, times, Stretch, gives, nothing, Goes}
+use Rattle.demands.proofs.MostDue.{to-the-limit}
 use Rattle.demands.proofs.Rules.{rules}
 
 -- "K hex 1/0" and "L 1/0"
@@ -17,6 +19,10 @@ key code down = Key code down ∷ []
 
 abbrev left : Bool → List Input
 left down = Button Left down ∷ []
+
+-- a motion along X alone
+abbrev along-x : ℤ → List Input
+along-x d = move d (plus 0)
 
 -- each of these inputs is refused with this number
 abbrev refuses : ℕ → List Input → Stretch
@@ -108,7 +114,7 @@ refused-byte-leaves-command =
 abbrev pub motion-to-the-bound-is-taken : Played
 motion-to-the-bound-is-taken =
     played (
-    gives (host (0x13 ∷ []) ++ times 31 (move (plus 64) (plus 0)) ++ move (plus 48) (plus 0) ++ move (plus 0) (plus 1)) nothing
+    gives (host (0x13 ∷ []) ++ to-the-limit along-x ++ move (plus 0) (plus 1)) nothing
     ∷ refuses 3 (move (plus 1) (plus 0) ++ move (plus 1) (plus 5))
     ∷ gives (move (minus 1) (plus 0)) nothing
     ∷ [])
@@ -174,11 +180,11 @@ last-key =
     ∷ refuses 1 (key 0x73 true)
     ∷ [])
 
--- "paused, 128 keys taken, the next gives 2"
+-- "paused, 128 keys taken, the next gives 2": as many as the queue has room for
 abbrev pub full-queue : Played
 full-queue =
     played (
-    gives (host (0x13 ∷ []) ++ times 128 (key 0x1E true)) nothing
+    gives (host (0x13 ∷ []) ++ times queue-room (key 0x1E true)) nothing
     ∷ refuses 2 (key 0x1E true)
     ∷ [])
 
@@ -186,7 +192,7 @@ full-queue =
 abbrev pub full-motion : Played
 full-motion =
     played (
-    gives (host (0x13 ∷ []) ++ times 31 (move (plus 64) (plus 0)) ++ move (plus 48) (plus 0)) nothing
+    gives (host (0x13 ∷ []) ++ to-the-limit along-x) nothing
     ∷ refuses 3 (move (plus 1) (plus 0))
     ∷ [])
 

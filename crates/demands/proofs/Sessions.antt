@@ -1,6 +1,6 @@
 -- The twelve sessions of document 01, computed.
 -- Assumes nothing.
-use mathlib.Core.Path.{_≡_, refl}
+use mathlib.Core.Path.{refl}
 use Rattle.demands.specs.Sessions.{Sessions, sessions}
 use Rattle.demands.proofs.Rules.{rules}
 

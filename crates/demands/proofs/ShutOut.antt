@@ -1,26 +1,27 @@
--- The controllers that document 01 shuts out by name: each differs from the step at a computed call.
+-- The controllers that document 01 shuts out by name: none of them keeps the step's promise.
 -- Assumes nothing.
-use Prim.Native.Nat.{ℕ, _≤_}
+use Prim.Native.Nat.{_≤_}
 use native.Mathlib.Omega.{arith}
 use mathlib.Core.Path.{_≡_, refl, sym, ap, subst, _∙_}
 use mathlib.Core.Bool.{true}
-use mathlib.Core.List.{List, [], _∷_}
+use mathlib.Core.List.{[], _∷_}
 use lib.ListN.{length}
 use Rattle.controller.specs.declared.State.{State}
 use Rattle.controller.specs.declared.Input.{Input}
-use Rattle.controller.specs.declared.Input.the-variants.{Byte, Key, Button, Move, Joystick, Sample, Tick}
+use Rattle.controller.specs.declared.Input.the-variants.{Byte, Key, Tick}
 use Rattle.controller.specs.declared.Answer.{Answer}
 use Rattle.controller.specs.declared.Answer.the-variants.{Taken, OutOfRange, QueueFull, MotionFull, BufferShort}
-use Rattle.controller.specs.State.{power-up}
-use Rattle.controller.proofs.States.{power-up-is-state}
+use Rattle.controller.specs.State.{IsState, power-up}
+use Rattle.controller.proofs.States.{power-up-is-state, keeps}
 use Rattle.controller.specs.Host.{Due}
 use Rattle.controller.specs.Step.{IsInput, due, verdict, told, step}
 use Rattle.output.specs.Writing.{over}
-use Rattle.demands.specs.ShutOut.{Outcome, Controller, Call, outcome, Meets, RefusesEverything, SendsF0, SwallowsAllInput, now, IdlesFrom, HandlesFirstByteOnly, count-due, InventsCount, NoneOfThese, ShutOut}
+use Rattle.demands.specs.ShutOut.{Controller, Intake, outcome, Meets, RefusesEverything, SendsF0, SwallowsAllInput, HandlesFirstByteOnly, count-due, InventsCount, ShutOut}
+use Rattle.demands.proofs.Idling.{never-idles}
 use Rattle.demands.proofs.Rules.{rules}
 
 -- power-up with this input and a buffer of one byte
-abbrev at-power-up : (i : Input) → IsInput i → Call
+abbrev at-power-up : (i : Input) → IsInput i → Intake
 at-power-up i h = record { state = power-up; is-state = power-up-is-state; input = i; is-input = h; lent = 0 ∷ []; is-lent = (omega arith, tt) }
 
 -- a tick at power-up is taken
@@ -40,22 +41,18 @@ not-f0 c m always =
 sends : (c : Controller) → Meets c → SwallowsAllInput c → ⊥
 unfolding rules
 sends c m none =
-    let k : Call = at-power-up (Key 0x1E true) (omega arith) in
+    let k : Intake = at-power-up (Key 0x1E true) (omega arith) in
     let h : outcome c k .stepped .count ≡ 1 = m k .count in
     let less : outcome c k .stepped .count ≡ 0 = none k in
     omega arith
 
--- the byte 0x00 leaves power-up, where a key sends its make
+-- a first byte leaves a state, and from no state does it idle
 goes : (c : Controller) → Meets c → HandlesFirstByteOnly c → ⊥
-unfolding rules
-goes c m idle =
-    let first : Call = at-power-up (Byte 0x00) (omega arith) in
-    let same : outcome c first .stepped .state ≡ power-up = m first .state in
-    let idles : IdlesFrom c power-up = subst (IdlesFrom c) same (idle 0x00 (omega arith) (0 ∷ []) (omega arith, tt)) in
-    let k : Call = at-power-up (Key 0x1E true) (omega arith) in
-    let h : outcome c k .stepped .count ≡ 1 = m k .count in
-    let less : outcome c k .stepped .count ≡ 0 = idles power-up now (Key 0x1E true) (omega arith) (0 ∷ []) (omega arith, tt) in
-    omega arith
+goes c m one =
+    let k : Intake = record { state = power-up; is-state = power-up-is-state; input = Byte (one .first); is-input = one .is-byte; lent = one .lent; is-lent = one .is-lent } in
+    never-idles c m (outcome c k .stepped .state)
+    (subst IsState (sym (m k .state)) (keeps power-up (Byte (one .first)) (length (one .lent)) power-up-is-state (one .is-byte)))
+    (one .idles)
 
 -- what a case of the answer reports is the count due
 counted : (a : Answer) (s : State) (d : Due) → length (told a s d .written) ≡ count-due a d
@@ -70,7 +67,7 @@ counted BufferShort s d = refl
 counts : (c : Controller) → Meets c → InventsCount c → ⊥
 unfolding step
 counts c m wrong =
-    let k : Call = wrong .call in
+    let k : Intake = wrong .intake in
     let d : Due = due (k .state) (k .input) in
     let v : Answer = verdict (k .state) (k .input) (length (k .lent)) in
     wrong .another (m k .count ∙ counted v (k .state) d ∙ ap (λ (a : Answer). count-due a d) (sym (m k .answer)))

@@ -8,12 +8,13 @@ use mathlib.Core.Logic.{_⊎_, inl, inr}
 use mathlib.Core.Bool.{Bool, true, false, _&&_, true≢false}
 use mathlib.Core.List.{List, [], _∷_, _++_, map, List·Memᴰ, List·Memᴰ·head, List·Memᴰ·tail, List·Memᴰ·not-nil, List·Memᴰ·cases-cons}
 use lib.Dec.{ltb}
-use lib.ListN.{length, getD, take, drop, replicate}
+use lib.ListN.{length, getD, take, drop}
 use lib.IntN.{pos, negsuc}
 use borrow.Author.Tests.{ltb-true}
+use Rattle.output.specs.Writing.{over}
 use Rattle.protocol.specs.declared.Settings.{Settings}
 use Rattle.protocol.specs.declared.MouseMode.the-variants.{Absolute, Keycode}
-use Rattle.protocol.specs.declared.StickMode.the-variants.{Interrogation, Fire, Cursor}
+use Rattle.protocol.specs.declared.StickMode.the-variants.{Interrogation, Fire, StickKeycode}
 use Rattle.protocol.specs.declared.Role.the-variants.{ForMouse, ForJoystick}
 use Rattle.protocol.specs.declared.Inquiry.{Inquiry}
 use Rattle.protocol.specs.declared.Inquiry.the-variants.{AskAction, AskMouse, AskThreshold, AskScale, AskOrigin, AskMouseOff, AskStick, AskSticksOff}
@@ -27,13 +28,13 @@ use Rattle.motion.specs.declared.Motions.{Motions}
 use Rattle.motion.specs.Motion.{at-rest}
 use Rattle.mouse.specs.Mouse.{with-held}
 use Rattle.protocol.specs.Reading.{no-command}
-use Rattle.protocol.specs.Commands.{with-stick, without-mouse}
+use Rattle.protocol.specs.Commands.{with-stick, without-mouse, with-role}
 use Rattle.protocol.specs.Settings as settings
 use Rattle.controller.specs.declared.State.{State}
 use Rattle.controller.specs.declared.Input.{Input}
 use Rattle.controller.specs.declared.Input.the-variants.{Byte, Key, Move, Joystick, Tick}
 use Rattle.controller.specs.declared.Queue.{Queue}
-use Rattle.controller.specs.State.{power-up, queue-of, empty-queue, IsState}
+use Rattle.controller.specs.State.{power-up, empty-queue, IsState}
 use Rattle.controller.specs.Sequences.{Turn, after}
 use Rattle.demands.specs.Demand3.{Seen, seen-in, taken, NoOther, last-8, Kept, Asking, SendingBack}
 use Rattle.demands.proofs.PutBack.{put-back}
@@ -95,6 +96,10 @@ kept-at : {h : List Seen} {q : Inquiry} {kept : List ℕ} (n : ℕ) → ltb n (l
     at h n .input ≡ Byte (code-of q) → at h n .answer ≡ 0 → kept ≡ drop 1 (last-8 (at h n .written)) → Kept h q kept
 kept-at {h} n e i a k = record { of-step = at h n; among = at-mem h n (ltb-true n (length h) e); asks = i; is-taken = a; copied = k }
 
+-- the queue in which these bytes wait
+abbrev waits : List ℕ → Queue
+waits bs = record { bytes = over bs (empty-queue .bytes); len = length bs }
+
 -- the state with these settings, pause, queue and held motion, and everything else as at power-up
 abbrev pub state-of : Settings → Bool → Queue → Motions → State
 state-of σ paused queue held = record {
@@ -116,7 +121,7 @@ mouse-settings = record {
   scale = record { x = 7; y = 8 };
   bottom = true;
   mouseon = true;
-  stick = Cursor (record { breakpoint = 1; before = 3; after = 5 }) (record { breakpoint = 2; before = 4; after = 6 });
+  stick = StickKeycode (record { breakpoint = 1; before = 3; after = 5 }) (record { breakpoint = 2; before = 4; after = 6 });
   stickson = false;
   port0 = ForMouse;
 }
@@ -124,7 +129,7 @@ mouse-settings = record {
 -- paused, with a key's make and break in the queue, and motion held
 unfoldable pub mouse-start : State
 mouse-start =
-    state-of mouse-settings true (record { bytes = 0x1E ∷ 0x9E ∷ replicate 126 0; len = 2 })
+    state-of mouse-settings true (waits (0x1E ∷ 0x9E ∷ []))
     (record { x = record { plus = 9; minus = 0 }; y = record { plus = 0; minus = 5 } })
 
 mouse-start-is : IsState mouse-start
@@ -172,7 +177,7 @@ mouse-asked = record { outside = refl; between = refl; no-other = none-other (ta
 
 -- another state: mouse off, interrogation mode, paused with a byte in the queue
 unfoldable pub mouse-later : State
-mouse-later = state-of (with-stick Interrogation (without-mouse settings.power-up)) true (record { bytes = 0x1E ∷ replicate 127 0; len = 1 }) at-rest
+mouse-later = state-of (with-role ForJoystick (with-stick Interrogation (without-mouse settings.power-up))) true (waits (0x1E ∷ [])) at-rest
 
 mouse-later-is : IsState mouse-later
 unfolding mouse-later rules taken
@@ -226,7 +231,7 @@ joystick-settings = record {
   scale = record { x = 7; y = 8 };
   bottom = true;
   mouseon = false;
-  stick = Cursor (record { breakpoint = 1; before = 3; after = 5 }) (record { breakpoint = 2; before = 4; after = 6 });
+  stick = StickKeycode (record { breakpoint = 1; before = 3; after = 5 }) (record { breakpoint = 2; before = 4; after = 6 });
   stickson = true;
   port0 = ForJoystick;
 }
@@ -272,7 +277,7 @@ joystick-asked = record { outside = refl; between = refl; no-other = none-other 
 
 -- another state: fire monitoring
 unfoldable pub joystick-later : State
-joystick-later = state-of (with-stick Fire settings.power-up) false empty-queue at-rest
+joystick-later = state-of (with-role ForJoystick (with-stick Fire settings.power-up)) false empty-queue at-rest
 
 joystick-later-is : IsState joystick-later
 unfolding joystick-later rules taken

@@ -1,16 +1,21 @@
--- Demands 2 and 3 over calls of the step in code, each known by its promise alone.
-use Prim.Native.Nat.{ℕ}
+-- The three demands over calls of the step in code, each known by its promise alone. Answer, bytes and state are read off what a call handed back;
+-- what fell due is the definition's.
+use Prim.Native.Nat.{ℕ, _≤_}
 use mathlib.Core.Path.{_≡_}
-use mathlib.Core.List.{List, [], _∷_, _++_, map}
-use lib.ListN.{length, take}
-use Rattle.output.specs.Packets.{Packet, bytes}
+use mathlib.Core.Bool.{cond, _&&_}
+use mathlib.Core.List.{List, [], _∷_, map}
+use lib.Dec.{eqb}
+use lib.ListN.{length, take, drop}
 use Rattle.protocol.specs.declared.Inquiry.{Inquiry}
 use Rattle.protocol.specs.Replies.{in-order}
 use Rattle.controller.specs.declared.State.{State}
 use Rattle.controller.specs.declared.Input.{Input}
 use Rattle.controller.specs.declared.Stepped.{Stepped}
-use Rattle.controller.specs.State.{IsState, contents}
+use Rattle.controller.specs.State.{IsState, contents, most-due}
 use Rattle.controller.specs.Step.{number, Did, step, IsInput}
+use Rattle.controller.specs.Sequences.{Turn, AreInputs, resets-by}
+use Rattle.demands.specs.Demand1.{ByTable}
+use Rattle.demands.specs.Demand2.{Flow, InOrder, Whole}
 use Rattle.demands.specs.Demand3.{Seen, Asking, SendingBack}
 
 -- one call: the input, the lent buffer before it, what it handed back, and the buffer after it
@@ -20,20 +25,77 @@ pub record Call : Type 0 where
   pub result : Stepped
   pub buffer : List ℕ
 
+-- the step's promise, of a call from the state s
+abbrev pub Promised : State → Call → Type 0
+Promised s c = Did s (c .input) (c .before) (c .result) (c .buffer)
+
 -- calls one after the other, from the state s to the state t: "nobody else writes that state meanwhile"
 abbrev pub Calls : State → List Call → State → Type 0
 Calls s [] t = t ≡ s
-Calls s (c ∷ cs) t = Did s (c .input) (c .before) (c .result) (c .buffer) × Calls (c .result .state) cs t
+Calls s (c ∷ cs) t = Promised s c × Calls (c .result .state) cs t
 
--- what a call wrote, read off its result and the buffer
-abbrev pub bytes-of-call : Call → List ℕ
-bytes-of-call c = take (c .result .count) (c .buffer)
+-- the answer number of a call
+abbrev pub answer-of : Call → ℕ
+answer-of c = number (c .result .answer)
 
--- what a call came to, read off its result and the buffer
+-- what a call wrote: its count of bytes, at the buffer's start
+abbrev pub written-by : Call → List ℕ
+written-by c = take (c .result .count) (c .buffer)
+
+-- what a call's input and buffer are to the definition
+abbrev pub turn-of : Call → Turn
+turn-of c = record { input = c .input; lent = length (c .before) }
+
+-- every input is one that the machine can give
+abbrev pub AreCalls : List Call → Type 0
+AreCalls cs = AreInputs (map turn-of cs)
+
+-- What the answer to a call from the state s says.
+pub record AnsweredCall (s : State) (c : Call) : Type 0 where
+  -- "It is taken, or it is refused for one of the four reasons in document 01."
+  pub by-table : ByTable s (c .input) (length (c .before)) (answer-of c)
+  -- "A refusal writes nothing and changes nothing, neither state nor buffer"
+  pub refused : (answer-of c ≡ 0 → ⊥) → (c .result .count ≡ 0) × (c .result .state ≡ s) × (c .buffer ≡ c .before)
+  -- "At most 8,264 bytes are ever due at once."
+  pub most : c .result .count ≤ most-due
+  -- "a count of bytes written at the buffer's start": they are within it, and it stays as long
+  pub within : c .result .count ≤ length (c .before)
+  pub as-long : length (c .buffer) ≡ length (c .before)
+  -- "On 0, buffer bytes past the count stay."
+  pub past-count : drop (c .result .count) (c .buffer) ≡ drop (c .result .count) (c .before)
+  -- "every answer to a state gives one": so of the next call too "no caller has to have tested anything first"
+  pub is-state : IsState (c .result .state)
+
+-- demand 1 for a call: "in every state and with a lent buffer of every length, empty too"
+abbrev pub Demand1-of-calls : Type 0
+Demand1-of-calls = (s : State) (c : Call) → IsState s → IsInput (c .input) → Promised s c → AnsweredCall s c
+
+-- what a call from the state s did with packets; "what a reset drops" is what waited, where the call took one, and nothing else is dropped
+abbrev pub flow-of : State → Call → Flow
+flow-of s c = record {
+  due = step s (c .input) (length (c .before)) .packets;
+  dropped = cond (eqb (answer-of c) 0 && resets-by s (c .input)) (contents (s .queue)) [];
+  written = written-by c;
+}
+
+-- of each call, each from the state that the one before it gave back
+unfoldable pub flows-of : State → List Call → List Flow
+flows-of s [] = []
+flows-of s (c ∷ cs) = flow-of s c ∷ flows-of (c .result .state) cs
+
+-- demand 2 for calls: "in the order they fell due; none is missing, but for what a reset drops, and none is sent twice"
+abbrev pub Demand2-of-calls : Type 0
+Demand2-of-calls = (s t : State) (cs : List Call) → IsState s → AreCalls cs → Calls s cs t → InOrder s (flows-of s cs) t
+
+-- demand 2 for calls: "Packets come whole"
+abbrev pub Demand2-whole-of-calls : Type 0
+Demand2-whole-of-calls = (s t : State) (cs : List Call) → IsState s → AreCalls cs → Calls s cs t → Whole s (flows-of s cs) t
+
+-- what a call came to, as it is seen from outside
 abbrev pub seen-of : Call → Seen
-seen-of c = record { input = c .input; answer = number (c .result .answer); written = bytes-of-call c }
+seen-of c = record { input = c .input; answer = answer-of c; written = written-by c }
 
--- as Demand3, for calls
+-- demand 3 for calls: as Demand3, of two sequences of them
 abbrev pub Demand3-of-calls : Type 0
 Demand3-of-calls =
     (s s′ t t′ : State) (asking sending : List Call) (kept : Inquiry → List ℕ) →
@@ -41,24 +103,3 @@ Demand3-of-calls =
     Asking s (map seen-of asking) kept →
     SendingBack t (map seen-of sending) (in-order (s .settings .port0) kept) →
     t′ .settings ≡ s .settings
-
--- the packets that fell due in calls from a state, in order
-unfoldable pub due-in-calls : State → List Call → List Packet
-due-in-calls s [] = []
-due-in-calls s (c ∷ cs) = step s (c .input) (length (c .before)) .packets ++ due-in-calls (c .result .state) cs
-
--- what was dropped by a reset, or written by the call, in order
-unfoldable pub gone-in-calls : State → List Call → List ℕ
-gone-in-calls s [] = []
-gone-in-calls s (c ∷ cs) = (step s (c .input) (length (c .before)) .dropped ++ bytes-of-call c) ++ gone-in-calls (c .result .state) cs
-
--- every input is one that the machine can give
-abbrev pub AreCalls : List Call → Type 0
-AreCalls [] = Unit {0}
-AreCalls (c ∷ cs) = IsInput (c .input) × AreCalls cs
-
--- as Demand2, for calls: none is missing, but for what a reset drops, none comes twice, and they come in the order in which they fell due
-abbrev pub Demand2-of-calls : Type 0
-Demand2-of-calls =
-    (s t : State) (cs : List Call) → IsState s → AreCalls cs → Calls s cs t →
-    contents (s .queue) ++ bytes (due-in-calls s cs) ≡ gone-in-calls s cs ++ contents (t .queue)

@@ -13,23 +13,28 @@ use Rattle.controller.specs.declared.Input.{Input}
 use Rattle.controller.specs.State.{IsState, most-due}
 use Rattle.controller.specs.Step.{IsInput, step, out-of-range, queue-full, motion-full, buffer-short}
 
--- What one answer says, for a state s, an input i and a lent buffer of this length.
-pub record Answered (s : State) (i : Input) (lent : ℕ) : Type 0 where
+-- The table of refusals: which number is given, for a state s, an input i and a lent buffer of this length.
+pub record ByTable (s : State) (i : Input) (lent answer : ℕ) : Type 0 where
   -- "1 is tested first": 1 is given exactly when its row of the table holds
-  pub one : (step s i lent .answer ≡ 1) ↔ (out-of-range s i lent ≡ true)
+  pub one : (answer ≡ 1) ↔ (out-of-range s i lent ≡ true)
   -- each other number is given exactly when its row holds and row 1 does not
-  pub two : (step s i lent .answer ≡ 2) ↔ ((out-of-range s i lent ≡ false) × (queue-full s i lent ≡ true))
-  pub three : (step s i lent .answer ≡ 3) ↔ ((out-of-range s i lent ≡ false) × (motion-full s i lent ≡ true))
-  pub four : (step s i lent .answer ≡ 4) ↔ ((out-of-range s i lent ≡ false) × (buffer-short s i lent ≡ true))
+  pub two : (answer ≡ 2) ↔ ((out-of-range s i lent ≡ false) × (queue-full s i lent ≡ true))
+  pub three : (answer ≡ 3) ↔ ((out-of-range s i lent ≡ false) × (motion-full s i lent ≡ true))
+  pub four : (answer ≡ 4) ↔ ((out-of-range s i lent ≡ false) × (buffer-short s i lent ≡ true))
   -- and the input is taken where none holds
-  pub taken : (step s i lent .answer ≡ 0)
+  pub taken : (answer ≡ 0)
       ↔ ((out-of-range s i lent ≡ false) × (queue-full s i lent ≡ false) × (motion-full s i lent ≡ false) × (buffer-short s i lent ≡ false))
   -- there are no other answers
-  pub one-of-five : step s i lent .answer ≤ 4
+  pub one-of-five : answer ≤ 4
   -- "no input meets two of the others"
   pub two-not-three : queue-full s i lent ≡ true → motion-full s i lent ≡ true → ⊥
   pub two-not-four : queue-full s i lent ≡ true → buffer-short s i lent ≡ true → ⊥
   pub three-not-four : motion-full s i lent ≡ true → buffer-short s i lent ≡ true → ⊥
+
+-- What one answer says, for a state s, an input i and a lent buffer of this length.
+pub record Answered (s : State) (i : Input) (lent : ℕ) : Type 0 where
+  -- "It is taken, or it is refused for one of the four reasons in document 01."
+  pub by-table : ByTable s i lent (step s i lent .answer)
   -- "A refusal writes nothing and changes nothing, neither state nor buffer"
   pub refused : (step s i lent .answer ≡ 0 → ⊥) →
       (step s i lent .state ≡ s) × (step s i lent .written ≡ []) × ((buffer : List ℕ) → over (step s i lent .written) buffer ≡ buffer)

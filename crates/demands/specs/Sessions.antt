@@ -6,7 +6,7 @@ use lib.ListN.{length, replicate}
 use lib.IntN.{ℤ, pos, negsuc}
 use Rattle.controller.specs.declared.State.{State}
 use Rattle.controller.specs.declared.Input.{Input}
-use Rattle.controller.specs.declared.Input.the-variants.{Byte, Key, Button, Move, Joystick, Sample, Tick}
+use Rattle.controller.specs.declared.Input.the-variants.{Byte, Move, Joystick, Tick}
 use Rattle.controller.specs.State.{power-up, most-due}
 use Rattle.controller.specs.Sequences.{Turn, Done, history, after, all-written}
 

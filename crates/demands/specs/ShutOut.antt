@@ -16,7 +16,7 @@ use Rattle.controller.specs.State.{IsState, power-up}
 use Rattle.controller.specs.Host.{Due}
 use Rattle.controller.specs.Step.{IsInput, due, Did}
 
--- what a controller hands back, and the lent buffer afterwards
+-- what comes out: what a controller hands back, and the lent buffer afterwards
 pub record Outcome : Type 0 where
   pub stepped : Stepped
   pub buffer : List ℕ
@@ -25,8 +25,8 @@ pub record Outcome : Type 0 where
 abbrev pub Controller : Type 0
 Controller = State → Input → List ℕ → Outcome
 
--- a call that may be made: a state, an input and a buffer of bytes, of any length
-pub record Call : Type 0 where
+-- what may go in: a state, an input and a buffer of bytes, of any length
+pub record Intake : Type 0 where
   pub state : State
   pub is-state : IsState state
   pub input : Input
@@ -34,25 +34,25 @@ pub record Call : Type 0 where
   pub lent : List ℕ
   pub is-lent : AllBytes lent
 
--- a controller at a call: "Out come the new state, an answer number and a count of bytes written at the buffer's start."
-abbrev pub outcome : Controller → Call → Outcome
+-- a controller, of what goes in: "Out come the new state, an answer number and a count of bytes written at the buffer's start."
+abbrev pub outcome : Controller → Intake → Outcome
 outcome c k = c (k .state) (k .input) (k .lent)
 
--- the controller keeps the step's promise at every call
+-- the controller keeps the step's promise, whatever goes in
 abbrev pub Meets : Controller → Type 0
-Meets c = (k : Call) → Did (k .state) (k .input) (k .lent) (outcome c k .stepped) (outcome c k .buffer)
+Meets c = (k : Intake) → Did (k .state) (k .input) (k .lent) (outcome c k .stepped) (outcome c k .buffer)
 
 -- "a controller that refuses everything"
 abbrev pub RefusesEverything : Controller → Type 0
-RefusesEverything c = (k : Call) → outcome c k .stepped .answer ≢ Taken
+RefusesEverything c = (k : Intake) → outcome c k .stepped .answer ≢ Taken
 
 -- "one that sends 0xF0 at every input": wherever there is room for it, whatever it sends besides
 abbrev pub SendsF0 : Controller → Type 0
-SendsF0 c = (k : Call) → 1 ≤ length (k .lent) → (1 ≤ outcome c k .stepped .count) × (take 1 (outcome c k .buffer) ≡ 0xF0 ∷ [])
+SendsF0 c = (k : Intake) → 1 ≤ length (k .lent) → (1 ≤ outcome c k .stepped .count) × (take 1 (outcome c k .buffer) ≡ 0xF0 ∷ [])
 
 -- "or swallows all input": nothing is ever sent, whatever it answers
 abbrev pub SwallowsAllInput : Controller → Type 0
-SwallowsAllInput c = (k : Call) → outcome c k .stepped .count ≡ 0
+SwallowsAllInput c = (k : Intake) → outcome c k .stepped .count ≡ 0
 
 -- the states that a controller comes to from a state, by inputs with buffers of any length
 pub data Later (c : Controller) (s : State) : State → Type 0 where
@@ -63,9 +63,13 @@ pub data Later (c : Controller) (s : State) : State → Type 0 where
 abbrev pub IdlesFrom : Controller → State → Type 0
 IdlesFrom c s = (t : State) → Later c s t → (i : Input) → IsInput i → (lent : List ℕ) → AllBytes lent → c t i lent .stepped .count ≡ 0
 
--- "one that handles the first byte of a session and idles afterwards"
-abbrev pub HandlesFirstByteOnly : Controller → Type 0
-HandlesFirstByteOnly c = (b : ℕ) → b ≤ 255 → (lent : List ℕ) → AllBytes lent → IdlesFrom c (c power-up (Byte b) lent .stepped .state)
+-- "one that handles the first byte of a session and idles afterwards": there is a first byte, with some buffer, after which it does
+pub record HandlesFirstByteOnly (c : Controller) : Type 0 where
+  pub first : ℕ
+  pub is-byte : first ≤ 255
+  pub lent : List ℕ
+  pub is-lent : AllBytes lent
+  pub idles : IdlesFrom c (c power-up (Byte first) lent .stepped .state)
 
 -- the count by its answer: "it is the length of the bytes due", and a refusal "reports 0 bytes written"
 abbrev pub count-due : Answer → Due → ℕ
@@ -75,10 +79,10 @@ count-due QueueFull d = 0
 count-due MotionFull d = 0
 count-due BufferShort d = 0
 
--- "one with an invented byte count": at some call it is another
+-- "one with an invented byte count": somewhere it is another
 pub record InventsCount (c : Controller) : Type 0 where
-  pub call : Call
-  pub another : outcome c call .stepped .count ≢ count-due (outcome c call .stepped .answer) (due (call .state) (call .input))
+  pub intake : Intake
+  pub another : outcome c intake .stepped .count ≢ count-due (outcome c intake .stepped .answer) (due (intake .state) (intake .input))
 
 -- a controller that is none of the five
 pub record NoneOfThese (c : Controller) : Type 0 where

@@ -1,20 +1,17 @@
--- How far the motions of the definitions can be, and that one side of each is 0.
+-- How far the motions of the definitions can be.
 -- Assumes nothing.
-use Prim.Native.Nat.{ℕ, _+_, _-_, _*_, _/_, _%_, _≤_, _<_, min, max}
+use Prim.Native.Nat.{ℕ, _+_, _-_, _≤_, _<_}
 use native.Mathlib.Omega.{arith}
 use native.Mathlib.Nat.{mod-lt, mod-le, div-le-self}
-use mathlib.Core.Path.{_≡_, refl}
-use mathlib.Core.Bool.{true, false}
+use mathlib.Core.Path.{_≡_}
+use mathlib.Core.Bool.{false}
 use borrow.Author.Tests.{leb-false}
 use lib.IntN.{ℤ, pos, negsuc, natAbs}
 use Rattle.motion.specs.declared.Motion.{Motion}
-use Rattle.motion.specs.Motion.{OneSided, size, of-signed, sum, opposite, reaches, quotient, remainder, packets-needed, moved}
+use Rattle.motion.specs.Motion.{OneSided, size, of-signed, sum, reaches, quotient, remainder, packets-needed}
 
 pub sum-size : (a b : Motion) → size (sum a b) ≤ size a + size b
 sum-size a b = omega arith
-
-pub sum-one : (a b : Motion) → OneSided (sum a b)
-sum-one a b = omega arith
 
 pub signed-size : (z : ℤ) → size (of-signed z) ≡ natAbs z
 signed-size (pos n) = omega arith
@@ -37,10 +34,6 @@ remainder-size m scale h one =
       mod-le (m .minus) scale,
     )
 
-pub remainder-one : (m : Motion) (scale : ℕ) → OneSided m → OneSided (remainder m scale)
-unfolding remainder
-remainder-one m scale one = omega (arith, mod-le (m .plus) scale, mod-le (m .minus) scale)
-
 pub quotient-size : (m : Motion) (scale : ℕ) → size (quotient m scale) ≤ size m
 unfolding quotient
 quotient-size m scale = omega (arith, div-le-self (m .plus) scale, div-le-self (m .minus) scale)
@@ -49,8 +42,3 @@ quotient-size m scale = omega (arith, div-le-self (m .plus) scale, div-le-self (
 pub needed-size : (m : Motion) → packets-needed m ≤ size m
 unfolding packets-needed
 needed-size m = omega arith
-
--- a coordinate does not pass the maximum
-pub moved-within : (maximum c : ℕ) (q : Motion) → moved maximum c q ≤ maximum
-unfolding moved
-moved-within maximum c q = omega arith

@@ -9,7 +9,7 @@ use borrow.Author.Tests.{le-leb, lt-leb}
 use lib.IntN.{ℤ, pos, negsuc, negℤ, natAbs, _+ℤ_}
 use lib.Signed.{_≤ℤ_, quotZ, remZ}
 use Rattle.motion.specs.declared.Motion.{Motion}
-use Rattle.motion.specs.Motion.{value, OneSided, size, of-signed, sum, opposite, reaches, quotient, remainder, part, left-over, moved}
+use Rattle.motion.specs.Motion.{value, OneSided, size, of-signed, sum, opposite, reaches, quotient, remainder, part, after-part, coordinate-after}
 use Rattle.motion.proofs.Difference.{Differs, above, below, itself, plain, negated, less, also, _⊕_, equal, at-most-back, one-part, absolute}
 
 -- a motion stands for its one side less the other
@@ -93,9 +93,9 @@ unfolding part
 one-sided-part m o = omega arith
 
 -- and in what is left after it.
-pub one-sided-left-over : (m : Motion) → OneSided m → OneSided (left-over m)
-unfolding left-over
-one-sided-left-over m o = omega arith
+pub one-sided-after-part : (m : Motion) → OneSided m → OneSided (after-part m)
+unfolding after-part
+one-sided-after-part m o = omega arith
 
 -- a motion as far as the threshold reaches it
 pub reaches-true : (m : Motion) (threshold : ℕ) → threshold ≤ size m → reaches m threshold ≡ true
@@ -108,9 +108,9 @@ unfolding reaches
 reaches-false m threshold h = lt-leb _ (size m) (omega arith)
 
 -- a coordinate never passes the maximum
-pub moved-within : (maximum c : ℕ) (q : Motion) → moved maximum c q ≤ maximum
-unfolding moved
-moved-within maximum c q = omega arith
+pub coordinate-within : (maximum c : ℕ) (q : Motion) → coordinate-after maximum c q ≤ maximum
+unfolding coordinate-after
+coordinate-within maximum c q = omega arith
 
 module _ (maximum c : ℕ) (q : Motion) where
   -- the coordinate and its motion, as an integer
@@ -118,19 +118,19 @@ module _ (maximum c : ℕ) (q : Motion) where
   goal = plain c ⊕ stands q
 
   -- between 0 and the maximum a coordinate moves by the motion
-  pub moved-sum : pos 0 ≤ℤ (pos c +ℤ value q) → (pos c +ℤ value q) ≤ℤ pos maximum → pos (moved maximum c q) ≡ pos c +ℤ value q
-  unfolding moved
-  moved-sum low high =
+  pub coordinate-sum : pos 0 ≤ℤ (pos c +ℤ value q) → (pos c +ℤ value q) ≤ℤ pos maximum → pos (coordinate-after maximum c q) ≡ pos c +ℤ value q
+  unfolding coordinate-after
+  coordinate-sum low high =
       let a = at-most-back (plain 0) goal low in
       let b = at-most-back goal (plain maximum) high in
-      equal (plain (moved maximum c q)) goal (omega arith)
+      equal (plain (coordinate-after maximum c q)) goal (omega arith)
 
   -- below 0 it stops at 0
-  pub moved-low : (pos c +ℤ value q) ≤ℤ pos 0 → moved maximum c q ≡ 0
-  unfolding moved
-  moved-low low = let a = at-most-back goal (plain 0) low in omega arith
+  pub coordinate-low : (pos c +ℤ value q) ≤ℤ pos 0 → coordinate-after maximum c q ≡ 0
+  unfolding coordinate-after
+  coordinate-low low = let a = at-most-back goal (plain 0) low in omega arith
 
   -- beyond the maximum it stops there
-  pub moved-high : pos maximum ≤ℤ (pos c +ℤ value q) → moved maximum c q ≡ maximum
-  unfolding moved
-  moved-high high = let a = at-most-back (plain maximum) goal high in omega arith
+  pub coordinate-high : pos maximum ≤ℤ (pos c +ℤ value q) → coordinate-after maximum c q ≡ maximum
+  unfolding coordinate-after
+  coordinate-high high = let a = at-most-back (plain maximum) goal high in omega arith

@@ -4,19 +4,14 @@ use Prim.Native.Nat.{ℕ, zero, suc, _-_, _*_, _≤_, _<_}
 use native.Mathlib.Omega.{arith}
 use mathlib.Core.Path.{_≡_, ap₂}
 use mathlib.Core.List.{List, [], _∷_}
-use mathlib.Core.Bool.{cond}
 use lib.Dec.{ltb, ltb→lt, nltb→le}
 use lib.ListN.{length}
 use lib.IntN.{ℤ, pos, negsuc, subℕ, _+ℤ_}
 use lib.Signed.{_≤ℤ_}
 use Rattle.motion.specs.declared.Motion.{Motion}
-use Rattle.motion.specs.Motion.{value, OneSided, size, still, part, left-over, byte, packets-needed}
+use Rattle.motion.specs.Motion.{value, OneSided, size, still, part, after-part, byte, signed-byte, packets-needed}
 use Rattle.motion.proofs.Difference.{Differs, above, below, itself, plain, less, also, chosen, _⊕_, equal, equal-back, at-most, at-most-back, one-part}
 use Rattle.motion.proofs.Integers.{stands}
-
--- a byte read as two's complement
-abbrev pub signed-byte : ℕ → ℤ
-signed-byte b = cond (ltb b 128) (pos b) (subℕ b 256)
 
 -- an integer that X or Y of a packet can be
 pub record Fits (z : ℤ) : Type 0 where
@@ -32,9 +27,9 @@ part-within m = record {
 }
 
 -- a part and what is left after it are the whole
-pub part-and-rest : (m : Motion) → value (part m) +ℤ value (left-over m) ≡ value m
-unfolding part left-over
-part-and-rest m = equal (stands (part m) ⊕ stands (left-over m)) (stands m) (omega arith)
+pub part-and-rest : (m : Motion) → value (part m) +ℤ value (after-part m) ≡ value m
+unfolding part after-part
+part-and-rest m = equal (stands (part m) ⊕ stands (after-part m)) (stands m) (omega arith)
 
 -- the byte of a part says the part
 pub byte-says : (m : Motion) → signed-byte (byte (part m)) ≡ value (part m)
@@ -50,12 +45,12 @@ byte-says m =
 -- what is left after n parts
 abbrev pub left-after : ℕ → Motion → Motion
 left-after zero m = m
-left-after (suc n) m = left-after n (left-over m)
+left-after (suc n) m = left-after n (after-part m)
 
 left-sides : (n : ℕ) (m : Motion) → (left-after n m .plus ≡ m .plus - 127 * n) × (left-after n m .minus ≡ m .minus - 128 * n)
-unfolding left-over
+unfolding after-part
 left-sides zero m = omega arith
-left-sides (suc n) m = let h = left-sides n (left-over m) in omega arith
+left-sides (suc n) m = let h = left-sides n (after-part m) in omega arith
 
 same-motion : (m : Motion) → m .plus ≡ 0 → m .minus ≡ 0 → m ≡ still
 same-motion m p q = ap₂ (λ (a b : ℕ). record { plus = a; minus = b }) p q
@@ -71,8 +66,8 @@ unfolding packets-needed
 fewest n m h = let s = left-sides n m in omega arith
 
 -- the packets that are needed after one of them
-pub one-fewer : (n : ℕ) (m : Motion) → packets-needed m ≤ suc n → packets-needed (left-over m) ≤ n
-unfolding packets-needed left-over
+pub one-fewer : (n : ℕ) (m : Motion) → packets-needed m ≤ suc n → packets-needed (after-part m) ≤ n
+unfolding packets-needed after-part
 one-fewer n m h = omega arith
 
 -- a list of integers that packets can say, and its sum

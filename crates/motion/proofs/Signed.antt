@@ -1,6 +1,6 @@
 -- A signed number of 16 bits as a motion: what the machine reads back of its bits is the number, and -1 less a negative one fits.
 -- Assumes nothing.
-use Prim.Native.Nat.{ℕ, _+_, _<_}
+use Prim.Native.Nat.{ℕ, _+_, _≤_, _<_}
 use native.Mathlib.Omega.{arith}
 use native.Mathlib.Numerals.{add-one}
 use mathlib.Core.Path.{_≡_, refl}
@@ -14,6 +14,11 @@ use mir.Val.{SFits, Fits, toZ, ofZ}
 use mir.ValLaws.{toZ-ofZ}
 use Rattle.motion.specs.Motion.{of-signed}
 use Rattle.motion.proofs.Difference.{itself, plain, negated, _⊕_, equal}
+
+-- how far a signed number of 16 bits is, at most
+pub far : (z : ℤ) → SFits w16 z → natAbs z ≤ 32768
+far (pos k) h = omega (arith, h .sfits)
+far (negsuc k) h = omega (arith, h .sfits)
 
 -- what the machine reads back of a number's bits
 abbrev pub read : ℤ → ℤ

@@ -1,9 +1,9 @@
 -- Motion along one axis (document 01, "The mouse"). A motion has two sides of which one is 0, and stands for the integer plus - minus.
 -- What the two axes do together is said with the mouse.
-use Prim.Native.Nat.{ℕ, zero, suc, _+_, _-_, _*_, _/_, _%_, _≤_, min, max}
+use Prim.Native.Nat.{ℕ, suc, _+_, _-_, _/_, _%_, min, max}
 use mathlib.Core.Path.{_≡_}
-use mathlib.Core.Bool.{Bool, true, false, cond}
-use lib.Dec.{leb}
+use mathlib.Core.Bool.{Bool, cond}
+use lib.Dec.{leb, ltb}
 use lib.IntN.{ℤ, pos, negsuc, subℕ}
 use Rattle.motion.specs.declared.Motion.{Motion}
 use Rattle.motion.specs.declared.Motions.{Motions}
@@ -58,17 +58,21 @@ unfoldable pub part : Motion → Motion
 part m = record { plus = min (m .plus) 127; minus = min (m .minus) 128 }
 
 -- what is left after that part
-unfoldable pub left-over : Motion → Motion
-left-over m = record { plus = m .plus - 127; minus = m .minus - 128 }
+unfoldable pub after-part : Motion → Motion
+after-part m = record { plus = m .plus - 127; minus = m .minus - 128 }
 
 -- "X, Y in two's complement": the byte of a part
 unfoldable pub byte : Motion → ℕ
 byte m = (m .plus + (256 - m .minus)) % 256
 
+-- "X, Y in two's complement": the integer that a byte says
+abbrev pub signed-byte : ℕ → ℤ
+signed-byte b = cond (ltb b 128) (pos b) (subℕ b 256)
+
 -- "The fewest packets are sent": how many one axis needs
 unfoldable pub packets-needed : Motion → ℕ
 packets-needed m = max ((m .plus + 126) / 127) ((m .minus + 127) / 128)
 
--- a coordinate moved by q: "Coordinates never pass 0 or the maximum"
-unfoldable pub moved : ℕ → ℕ → Motion → ℕ
-moved maximum c q = min maximum ((c + q .plus) - q .minus)
+-- a coordinate once q has moved it: "Coordinates never pass 0 or the maximum"
+unfoldable pub coordinate-after : ℕ → ℕ → Motion → ℕ
+coordinate-after maximum c q = min maximum ((c + q .plus) - q .minus)

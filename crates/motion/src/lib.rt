@@ -1,26 +1,20 @@
 // Mouse motion along an axis, as two sides of which one is 0: its value is `plus` less `minus`.
 ghost use mathlib.Core.Path.{_≡_};
 ghost use Prim.Native.Nat.{_+_, _-_, _≤_, min, max};
-ghost use Rattle.motion.specs.Motion.{still, at-rest, of-signed, sum, opposite, size, reaches, quotient, remainder, part, byte, left-over, packets-needed, moved};
+ghost use Rattle.motion.specs.Motion.{at-rest, of-signed, sum, opposite, size, reaches, quotient, remainder, part, byte, after-part, packets-needed, coordinate-after};
 
 pub struct Motion {
     pub plus: u16,
     pub minus: u16,
 }
 
-// Motion along both axes: x to the right, y toward the user.
+// Motion along both axes: x to the right, y toward the user, or away from the user where an origin at the bottom has negated it.
 pub struct Motions {
     pub x: Motion,
     pub y: Motion,
 }
 
 impl Motion {
-    pub fn still() -> Self
-        ensures { λ r. ⌜ r ≡ still ⌝ }
-    {
-        Motion { plus: 0, minus: 0 }
-    }
-
     // The one place where a signed number comes in. -1 less a negative number always fits, where 0 less it may not.
     pub fn of_signed(z: i16) -> Self
         ensures { λ r. ⌜ r ≡ of-signed z ⌝ }
@@ -39,7 +33,7 @@ impl Motion {
     }
 
     pub fn add(self, d: Motion) -> Self
-        requires { ⌜ size self + size d ≤ 65535 ⌝ }
+        requires { ⌜ (self .plus + d .plus ≤ 65535) × (self .minus + d .minus ≤ 65535) ⌝ }
         ensures { λ r. ⌜ r ≡ sum self d ⌝ }
     {
         let p = self.plus + d.plus;
@@ -60,18 +54,16 @@ impl Motion {
     }
 
     // How far it is, either way.
-    pub fn size(self) -> u16
-        requires { ⌜ size self ≤ 65535 ⌝ }
+    pub fn size(self) -> u32
         ensures { λ r. ⌜ r ≡ size self ⌝ }
     {
-        self.plus + self.minus
+        self.plus as u32 + self.minus as u32
     }
 
     pub fn reaches(self, threshold: u8) -> bool
-        requires { ⌜ size self ≤ 65535 ⌝ }
         ensures { λ r. ⌜ r ≡ reaches self threshold ⌝ }
     {
-        threshold as u16 <= self.size()
+        threshold as u32 <= self.size()
     }
 
     // Divided toward zero: each side is.
@@ -107,8 +99,8 @@ impl Motion {
     }
 
     // What one packet leaves.
-    pub fn left_over(self) -> Self
-        ensures { λ r. ⌜ r ≡ left-over self ⌝ }
+    pub fn after_part(self) -> Self
+        ensures { λ r. ⌜ r ≡ after-part self ⌝ }
     {
         Motion {
             plus: less(self.plus, 127),
@@ -116,16 +108,18 @@ impl Motion {
         }
     }
 
+    // The sums may pass 16 bits.
     pub fn packets_needed(self) -> u16
-        requires { ⌜ size self ≤ 65000 ⌝ }
         ensures { λ r. ⌜ r ≡ packets-needed self ⌝ }
     {
-        larger((self.plus + 126) / 127, (self.minus + 127) / 128)
+        let p = (self.plus as u32 + 126) / 127;
+        let m = (self.minus as u32 + 127) / 128;
+        larger(p as u16, m as u16)
     }
 
-    // A coordinate moved by this motion, held to 0 and the maximum. The sum may pass 16 bits.
-    pub fn moves(self, maximum: u16, place: u16) -> u16
-        ensures { λ r. ⌜ r ≡ moved maximum place self ⌝ }
+    // A coordinate once this motion has moved it, held to 0 and the maximum. The sum may pass 16 bits.
+    pub fn coordinate_after(self, maximum: u16, place: u16) -> u16
+        ensures { λ r. ⌜ r ≡ coordinate-after maximum place self ⌝ }
     {
         let p = place as u32 + self.plus as u32;
         let m = self.minus as u32;

@@ -2,89 +2,49 @@
 -- Assumes nothing.
 use Prim.Native.Nat.{ℕ, zero, suc, _≤_, max}
 use native.Mathlib.Omega.{arith}
-use mathlib.Core.Path.{_≡_, refl, sym, ap, _∙_}
+use mathlib.Core.Path.{_≡_, refl, sym, ap, ap₂, _∙_}
 use mathlib.Core.Bool.{Bool, true, false, cond, not}
-use mathlib.Core.List.{List, [], _∷_}
+use mathlib.Core.List.{List, _++_}
 use lib.Dec.{eqb}
 use lib.ListN.{length}
 use lib.IntN.{ℤ, pos, negℤ, _+ℤ_}
 use borrow.Author.Tests.{ne-eqb}
-use Rattle.output.specs.Packets.{Packet, scan, motion, position, time, sticks, stick, monitor, samples, status, version}
+use Rattle.output.specs.Packets.{Packet}
+use Rattle.output.proofs.Cases.{both-ways}
 use Rattle.motion.specs.declared.Motion.{Motion}
 use Rattle.motion.specs.declared.Motions.{Motions}
-use Rattle.motion.specs.Motion.{value, part, left-over, byte, packets-needed, opposite, of-signed}
+use Rattle.motion.specs.Motion.{value, part, after-part, byte, signed-byte, packets-needed, opposite, of-signed}
 use Rattle.motion.proofs.Difference.{plain, itself, _⊕_, equal}
 use Rattle.motion.proofs.Integers.{value-of-signed, value-sum, value-opposite}
-use Rattle.motion.proofs.Parts.{signed-byte, part-and-rest, byte-says, all-sent, one-fewer}
+use Rattle.motion.proofs.Parts.{part-and-rest, byte-says, all-sent, one-fewer}
 use Rattle.protocol.specs.declared.MouseMode.{MouseMode}
 use Rattle.protocol.specs.declared.MouseMode.the-variants.{Relative, Absolute, Keycode}
 use Rattle.protocol.specs.declared.Axes.{Axes}
 use Rattle.protocol.specs.declared.Settings.{Settings}
 use Rattle.mouse.specs.declared.Mouse.{Mouse}
 use Rattle.mouse.specs.declared.Side.{Side}
-use Rattle.mouse.specs.declared.Side.the-variants.{Left, Right}
 use Rattle.mouse.specs.Mouse.{live, with-held}
-use Rattle.mouse.specs.Reports.{MouseDue, quiet, split, packets-for, send-all, report}
-use Rattle.mouse.specs.Moves.{incoming, gathered, either-reaches, motion-due, released, applied, moves}
-use Rattle.mouse.specs.Buttons.{level, with-level, as-keys, reported, live-button, presses}
-
--- the two axes: each law is stated once, over either
-pub data Axis : Type 0 where
-  AlongX : Axis
-  AlongY : Axis
-
--- the motion along an axis
-abbrev pub along : Axis → Motions → Motion
-along AlongX d = d .x
-along AlongY d = d .y
-
--- the byte of a motion packet for an axis
-abbrev pub byte-along : Axis → ℕ → ℕ → ℕ
-byte-along AlongX x y = x
-byte-along AlongY x y = y
-
--- how far a packet says that the mouse moved: only relative motion counts
-abbrev pub says : Axis → Packet → ℤ
-says a (scan code) = pos 0
-says a (motion levels x y) = signed-byte (byte-along a x y)
-says a (position latches x y) = pos 0
-says a (time year month day hour minute second) = pos 0
-says a (sticks b0 b1) = pos 0
-says a (stick which b) = pos 0
-says a (monitor triggers positions) = pos 0
-says a (samples b) = pos 0
-says a (status c0 c1 c2 c3 c4 c5 c6) = pos 0
-says a version = pos 0
-
--- and packets together
-abbrev pub said : Axis → List Packet → ℤ
-said a [] = pos 0
-said a (p ∷ ps) = says a p +ℤ said a ps
-
--- the sums of the X, and of the Y, of all motion packets
-abbrev pub x-sum : List Packet → ℤ
-x-sum = said AlongX
-
-abbrev pub y-sum : List Packet → ℤ
-y-sum = said AlongY
+use Rattle.mouse.specs.Reports.{MouseDue, packets-due, quiet, send-all, report}
+use Rattle.mouse.specs.Sending.{split, packets-for, packets-sent, nothing-sent}
+use Rattle.mouse.specs.Moves.{incoming, added-to-held, either-reaches, motion-due, released, live-motion, moves}
+use Rattle.mouse.specs.Buttons.{level, with-level, as-keys, action-reports, live-button, presses}
+use Rattle.mouse.specs.Totals.{Axis, AlongX, AlongY, along, said, brings}
+use Rattle.mouse.proofs.Dues.{none-sent, all-due}
+use Rattle.mouse.proofs.States.{level-held}
 
 -- what is said and what is still held, together, are what the mouse held
 abbrev pub Keeps : Axis → Mouse → MouseDue → Type 0
-Keeps a m d = said a (d .packets) +ℤ value (along a (d .mouse .held)) ≡ value (along a (m .held))
+Keeps a m d = said a (packets-due d) +ℤ value (along a (d .mouse .held)) ≡ value (along a (m .held))
 
-both-ways : (P : MouseDue → Type 0) (t : Bool) {d e : MouseDue} → (t ≡ true → P d) → (t ≡ false → P e) → P (cond t d e)
-both-ways P true f g = f refl
-both-ways P false f g = g refl
-
--- nothing said, and nothing changed
-nothing-said : (z : ℤ) → pos 0 +ℤ z ≡ z
-nothing-said z = equal (plain 0 ⊕ itself z) (itself z) (omega arith)
+-- where nothing of held motion is sent, packets that say nothing of motion leave what is held
+nothing-said : (a : Axis) (ps : List Packet) {z : ℤ} → said a ps ≡ pos 0 → said a (packets-sent nothing-sent ++ ps) +ℤ z ≡ z
+nothing-said a ps {z} e = rw (none-sent, e) (equal (plain 0 ⊕ itself z) (itself z) (omega arith))
 
 nothing-left : (z : ℤ) → z +ℤ pos 0 ≡ z
 nothing-left z = equal (itself z ⊕ plain 0) (itself z) (omega arith)
 
 -- one packet of a split, and then the rest
-one-part : (m : Motion) (rest : ℤ) → rest ≡ value (left-over m) → signed-byte (byte (part m)) +ℤ rest ≡ value m
+one-part : (m : Motion) (rest : ℤ) → rest ≡ value (after-part m) → signed-byte (byte (part m)) +ℤ rest ≡ value m
 one-part m rest e =
     ap (λ (z : ℤ). z +ℤ rest) (byte-says m) ∙ ap (λ (z : ℤ). value (part m) +ℤ z) e ∙ part-and-rest m
 
@@ -93,19 +53,22 @@ pub split-says : (a : Axis) (n levels : ℕ) (d : Motions) → packets-needed (a
 unfolding split
 split-says a zero levels d h = sym (ap value (all-sent 0 (along a d) h))
 split-says AlongX (suc n) levels d h =
-    one-part (d .x) _ (split-says AlongX n levels (record { x = left-over (d .x); y = left-over (d .y) }) (one-fewer n (d .x) h))
+    one-part (d .x) _ (split-says AlongX n levels (record { x = after-part (d .x); y = after-part (d .y) }) (one-fewer n (d .x) h))
 split-says AlongY (suc n) levels d h =
-    one-part (d .y) _ (split-says AlongY n levels (record { x = left-over (d .x); y = left-over (d .y) }) (one-fewer n (d .y) h))
+    one-part (d .y) _ (split-says AlongY n levels (record { x = after-part (d .x); y = after-part (d .y) }) (one-fewer n (d .y) h))
 
 enough : (a : Axis) (least : ℕ) (d : Motions) → packets-needed (along a d) ≤ max least (packets-for d)
 enough AlongX least d = omega arith
 enough AlongY least d = omega arith
 
+none-held : (a : Axis) (least : ℕ) (m : Mouse) → value (along a (send-all least m .mouse .held)) ≡ pos 0
+unfolding send-all
+none-held AlongX least m = refl
+none-held AlongY least m = refl
+
 -- sending all says what was held, and holds nothing
 pub send-all-keeps : (a : Axis) (least : ℕ) (m : Mouse) → Keeps a m (send-all least m)
-unfolding send-all
-send-all-keeps AlongX least m = nothing-left _ ∙ split-says AlongX _ _ (m .held) (enough AlongX least (m .held))
-send-all-keeps AlongY least m = nothing-left _ ∙ split-says AlongY _ _ (m .held) (enough AlongY least (m .held))
+send-all-keeps a least m = ap₂ _+ℤ_ (ap (said a) (all-due least m)) (none-held a least m) ∙ nothing-left _ ∙ split-says a _ _ (m .held) (enough a least (m .held))
 
 -- held motion that is due in relative mode is sent, or stays held
 due-keeps : (a : Axis) (threshold : Axes) (m : Mouse) → Keeps a m (motion-due Relative threshold m)
@@ -113,12 +76,7 @@ unfolding motion-due
 due-keeps a threshold m =
     both-ways (Keeps a m) (either-reaches threshold (m .held))
     (λ e. send-all-keeps a _ m)
-    (λ e. nothing-said _)
-
--- what a motion event brings along an axis: dy "negated as the event comes in" where the origin is at the bottom
-abbrev pub brings : Axis → Bool → ℤ → ℤ → ℤ
-brings AlongX bottom dx dy = dx
-brings AlongY bottom dx dy = cond bottom (negℤ dy) dy
+    (λ e. nothing-said a _ refl)
 
 turned : (t : Bool) (z : ℤ) → value (cond t (opposite (of-signed z)) (of-signed z)) ≡ cond t (negℤ z) z
 turned true z = value-opposite (of-signed z) ∙ ap negℤ (value-of-signed z)
@@ -131,23 +89,23 @@ incoming-brings AlongX σ dx dy e = value-of-signed dx
 incoming-brings AlongY σ dx dy e = rw e (turned (σ .bottom) dy)
 
 -- it is added to what is held
-gathered-brings : (a : Axis) (σ : Settings) (dx dy : ℤ) (held : Motions) → σ .mouse ≡ Relative → value (along a (gathered σ dx dy held)) ≡ value (along a held) +ℤ brings a (σ .bottom) dx dy
-unfolding gathered
-gathered-brings AlongX σ dx dy held e =
+added-to-held-brings : (a : Axis) (σ : Settings) (dx dy : ℤ) (held : Motions) → σ .mouse ≡ Relative → value (along a (added-to-held σ dx dy held)) ≡ value (along a held) +ℤ brings a (σ .bottom) dx dy
+unfolding added-to-held
+added-to-held-brings AlongX σ dx dy held e =
     value-sum (held .x) (incoming σ dx dy .x) ∙ ap (λ (z : ℤ). value (held .x) +ℤ z) (incoming-brings AlongX σ dx dy e)
-gathered-brings AlongY σ dx dy held e =
+added-to-held-brings AlongY σ dx dy held e =
     value-sum (held .y) (incoming σ dx dy .y) ∙ ap (λ (z : ℤ). value (held .y) +ℤ z) (incoming-brings AlongY σ dx dy e)
 
-applied-keeps : (a : Axis) (mode : MouseMode) (paused : Bool) (σ : Settings) (m : Mouse) → mode ≡ Relative → Keeps a m (applied mode paused σ m)
-unfolding applied
-applied-keeps a mode paused σ m e =
-    rw e (both-ways (Keeps a m) paused (λ t. nothing-said _) (λ t. due-keeps a (σ .threshold) m))
+live-motion-keeps : (a : Axis) (mode : MouseMode) (paused : Bool) (σ : Settings) (m : Mouse) → mode ≡ Relative → Keeps a m (live-motion mode paused σ m)
+unfolding live-motion
+live-motion-keeps a mode paused σ m e =
+    rw e (both-ways (Keeps a m) paused (λ t. nothing-said a _ refl) (λ t. due-keeps a (σ .threshold) m))
 
 -- a live motion event in relative mode: what it says and leaves held is what was held and what it brought
-pub moves-conserve : (a : Axis) (paused : Bool) (σ : Settings) (dx dy : ℤ) (m : Mouse) → σ .mouse ≡ Relative → live σ ≡ true → said a (moves paused σ dx dy m .packets) +ℤ value (along a (moves paused σ dx dy m .mouse .held)) ≡ value (along a (m .held)) +ℤ brings a (σ .bottom) dx dy
+pub moves-conserve : (a : Axis) (paused : Bool) (σ : Settings) (dx dy : ℤ) (m : Mouse) → σ .mouse ≡ Relative → live σ ≡ true → said a (packets-due (moves paused σ dx dy m)) +ℤ value (along a (moves paused σ dx dy m .mouse .held)) ≡ value (along a (m .held)) +ℤ brings a (σ .bottom) dx dy
 unfolding moves
 moves-conserve a paused σ dx dy m e l =
-    rw l (applied-keeps a (σ .mouse) paused σ (with-held (gathered σ dx dy (m .held)) m) e ∙ gathered-brings a σ dx dy (m .held) e)
+    rw l (live-motion-keeps a (σ .mouse) paused σ (with-held (added-to-held σ dx dy (m .held)) m) e ∙ added-to-held-brings a σ dx dy (m .held) e)
 
 -- not live, it changes and says nothing
 pub moves-dropped : (paused : Bool) (σ : Settings) (dx dy : ℤ) (m : Mouse) → live σ ≡ false → moves paused σ dx dy m ≡ quiet m
@@ -155,53 +113,47 @@ unfolding moves
 moves-dropped paused σ dx dy m l = rw l
 
 -- a resume in relative mode says and leaves held what was held
-pub released-conserve : (a : Axis) (σ : Settings) (m : Mouse) → σ .mouse ≡ Relative → said a (released σ m .packets) +ℤ value (along a (released σ m .mouse .held)) ≡ value (along a (m .held))
+pub released-conserve : (a : Axis) (σ : Settings) (m : Mouse) → σ .mouse ≡ Relative → said a (packets-due (released σ m)) +ℤ value (along a (released σ m .mouse .held)) ≡ value (along a (m .held))
 unfolding released
 released-conserve a σ m e =
     both-ways (Keeps a m) (live σ)
     (λ l. rw e (due-keeps a (σ .threshold) m))
-    (λ l. nothing-said _)
-
--- a button that changes its level moves nothing
-same-held : (side : Side) (down : Bool) (m : Mouse) → with-level side down m .held ≡ m .held
-same-held Left down m = refl
-same-held Right down m = refl
+    (λ l. nothing-said a _ refl)
 
 live-button-keeps : (a : Axis) (mode : MouseMode) (action : ℕ) (side : Side) (down : Bool) (m : Mouse) → Keeps a m (live-button mode action side down m)
 unfolding live-button report
 live-button-keeps a Relative action side down m =
-    both-ways (Keeps a m) (eqb action as-keys) (λ t. nothing-said _) (λ t. send-all-keeps a _ m)
+    both-ways (Keeps a m) (eqb action as-keys) (λ t. nothing-said a _ refl) (λ t. send-all-keeps a _ m)
 live-button-keeps a (Absolute maximum) action side down m =
-    both-ways (Keeps a m) (eqb action as-keys) (λ t. nothing-said _)
-    (λ t. both-ways (Keeps a m) (reported action down) (λ u. nothing-said _) (λ u. nothing-said _))
-live-button-keeps a (Keycode delta) action side down m = nothing-said _
+    both-ways (Keeps a m) (eqb action as-keys) (λ t. nothing-said a _ refl)
+    (λ t. both-ways (Keeps a m) (action-reports action down) (λ u. nothing-said a _ refl) (λ u. nothing-said a _ refl))
+live-button-keeps a (Keycode delta) action side down m = nothing-said a _ refl
 
 -- a button event, in every mode: what it says and leaves held is what was held
-pub presses-conserve : (a : Axis) (σ : Settings) (side : Side) (down : Bool) (m : Mouse) → said a (presses σ side down m .packets) +ℤ value (along a (presses σ side down m .mouse .held)) ≡ value (along a (m .held))
+pub presses-conserve : (a : Axis) (σ : Settings) (side : Side) (down : Bool) (m : Mouse) → said a (packets-due (presses σ side down m)) +ℤ value (along a (presses σ side down m .mouse .held)) ≡ value (along a (m .held))
 unfolding presses
 presses-conserve a σ side down m =
     let now = with-level side down m in
-    let same = ap (λ (h : Motions). value (along a h)) (same-held side down m) in
-    both-ways (Keeps a m) (cond down (level side m) (not (level side m))) (λ t. nothing-said _)
+    let same = ap (λ (h : Motions). value (along a h)) (level-held side down m) in
+    both-ways (Keeps a m) (cond down (level side m) (not (level side m))) (λ t. nothing-said a _ refl)
     (λ t.
-    both-ways (Keeps a m) (live σ) (λ l. live-button-keeps a (σ .mouse) (σ .action) side down now ∙ same) (λ l. nothing-said _ ∙ same))
+    both-ways (Keeps a m) (live σ) (λ l. live-button-keeps a (σ .mouse) (σ .action) side down now ∙ same) (λ l. nothing-said a _ refl ∙ same))
 
 -- a split has as many packets as it is asked for
 pub split-length : (n levels : ℕ) (d : Motions) → length (split n levels d) ≡ n
 unfolding split
 split-length zero levels d = refl
-split-length (suc n) levels d = ap suc (split-length n levels (record { x = left-over (d .x); y = left-over (d .y) }))
+split-length (suc n) levels d = ap suc (split-length n levels (record { x = after-part (d .x); y = after-part (d .y) }))
 
 changed : (down : Bool) → cond down (not down) (not (not down)) ≡ false
 changed true = refl
 changed false = refl
 
-sends-least : (least : ℕ) (m : Mouse) → 1 ≤ least → 1 ≤ length (send-all least m .packets)
-unfolding send-all
-sends-least least m h = simp split-length (omega arith)
+sends-least : (least : ℕ) (m : Mouse) → 1 ≤ least → 1 ≤ length (packets-due (send-all least m))
+sends-least least m h = rw (all-due least m, split-length) (omega arith)
 
 -- a live button in relative mode, whose level changes and which is no key, sends a packet at least
-pub button-sends : (σ : Settings) (side : Side) (down : Bool) (m : Mouse) → σ .mouse ≡ Relative → live σ ≡ true → level side m ≡ not down → (σ .action ≡ as-keys → ⊥) → 1 ≤ length (presses σ side down m .packets)
+pub button-sends : (σ : Settings) (side : Side) (down : Bool) (m : Mouse) → σ .mouse ≡ Relative → live σ ≡ true → level side m ≡ not down → (σ .action ≡ as-keys → ⊥) → 1 ≤ length (packets-due (presses σ side down m))
 unfolding presses live-button
 button-sends σ side down m e l c k =
     rw (c, changed down, l, e, ne-eqb (σ .action) as-keys k) (sends-least _ (with-level side down m) (omega arith))

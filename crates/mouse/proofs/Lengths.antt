@@ -2,9 +2,9 @@
 -- Assumes nothing.
 use Prim.Native.Nat.{ℕ, zero, suc, _+_, _*_, _≤_, max}
 use native.Mathlib.Omega.{arith}
-use mathlib.Core.Path.{_≡_, refl, ap, _∙_}
-use mathlib.Core.Bool.{Bool, true, false, cond, not, _||_}
-use mathlib.Core.List.{List, [], _∷_, _++_}
+use mathlib.Core.Path.{_≡_, refl, _∙_}
+use mathlib.Core.Bool.{Bool, true, false, cond, not}
+use mathlib.Core.List.{List, [], _++_}
 use lib.Dec.{eqb}
 use lib.ListN.{length, length-append}
 use lib.IntN.{ℤ, natAbs}
@@ -13,7 +13,7 @@ use Rattle.output.specs.Packets.{Packet, bytes, pairs}
 use Rattle.output.proofs.Cases.{both-ways}
 use Rattle.output.proofs.Packets.{bytes-append, pairs-length}
 use Rattle.motion.specs.declared.Motions.{Motions}
-use Rattle.motion.specs.Motion.{size, reaches, quotient, part, left-over, packets-needed}
+use Rattle.motion.specs.Motion.{size, after-part}
 use Rattle.motion.proofs.Bounds.{quotient-size, needed-size}
 use Rattle.protocol.specs.declared.Axes.{Axes}
 use Rattle.protocol.specs.declared.MouseMode.{MouseMode}
@@ -25,21 +25,21 @@ use Rattle.protocol.specs.Settings.{acts-as}
 use Rattle.mouse.specs.declared.Mouse.{Mouse}
 use Rattle.mouse.specs.declared.Sending.{Sending}
 use Rattle.mouse.specs.declared.Side.{Side}
-use Rattle.mouse.specs.declared.Side.the-variants.{Left, Right}
-use Rattle.mouse.specs.Mouse.{live, held-limit, held-below, with-held}
-use Rattle.mouse.specs.Reports.{MouseDue, quiet, buttons, split, packets-for, send-all, report}
-use Rattle.mouse.specs.Moves.{gathered, either-reaches, quotients, arrows, keyed, motion-due, released, applied, moves}
-use Rattle.mouse.specs.Buttons.{level, with-level, live-button, presses, as-keys, reported, keyed-button, with-latch}
+use Rattle.mouse.specs.Mouse.{live, held-limit, with-held}
+use Rattle.mouse.specs.Reports.{MouseDue, packets-due, send-all, report}
+use Rattle.mouse.specs.Moves.{added-to-held, either-reaches, send-deltas, coordinates-moved, motion-due, released, live-motion, moves}
+use Rattle.mouse.specs.Buttons.{level, with-level, live-button, presses, as-keys, action-reports}
 use Rattle.mouse.specs.Commands.{commanded}
-use Rattle.mouse.specs.Sending.{packets-sent}
-use Rattle.mouse.proofs.States.{GoodMouse, gathered-size, held-small, held-unpaused}
+use Rattle.mouse.specs.Sending.{split, arrows, packets-sent, nothing-sent}
+use Rattle.mouse.proofs.Dues.{none-sent, quiet-due}
+use Rattle.mouse.proofs.States.{GoodMouse, added-to-held-size, level-held, held-small, held-unpaused}
 
 -- n packets of motion are 3·n bytes
 pub split-length : (n levels : ℕ) (d : Motions) → length (bytes (split n levels d)) ≡ 3 * n
 unfolding split
 split-length zero levels d = refl
 split-length (suc n) levels d =
-    let h = split-length n levels (record { x = left-over (d .x); y = left-over (d .y) }) in
+    let h = split-length n levels (record { x = after-part (d .x); y = after-part (d .y) }) in
     omega arith
 
 four-append : (a b c d : List Packet) → length (bytes (a ++ (b ++ (c ++ d)))) ≡ length (bytes a) + (length (bytes b) + (length (bytes c) + length (bytes d)))
@@ -63,110 +63,114 @@ pub sent-length : (d : Sending) → length (bytes (packets-sent d)) ≡ 3 * d .p
 unfolding packets-sent
 sent-length d = simp (bytes-append, length-append, split-length, arrows-length)
 
+-- what falls due: three bytes a packet of motion, two an arrow, and those of the other packets
+due-bytes : (d : MouseDue) → length (bytes (packets-due d)) ≡ 3 * d .sending .packets + 2 * (size (d .sending .arrows .x) + size (d .sending .arrows .y)) + length (bytes (d .others))
+due-bytes d = simp (bytes-append, length-append, sent-length)
+
+-- where nothing of held motion is sent, as few as the other packets have
+few : (ps : List Packet) {n : ℕ} → length (bytes ps) ≤ n → length (bytes (packets-sent nothing-sent ++ ps)) ≤ n
+few ps h = rw none-sent h
+
 -- what is sent of motion that is held, at most: n on each axis
-all-length : (least n : ℕ) (m : Mouse) → size (m .held .x) ≤ n → size (m .held .y) ≤ n → length (bytes (send-all least m .packets)) ≤ 3 * max least n
+all-length : (least n : ℕ) (m : Mouse) → size (m .held .x) ≤ n → size (m .held .y) ≤ n → length (bytes (packets-due (send-all least m))) ≤ 3 * max least n
 unfolding send-all
 all-length least n m hx hy =
     omega (
       arith,
-      split-length (max least (packets-for (m .held))) (buttons m) (m .held),
+      due-bytes (send-all least m),
       needed-size (m .held .x),
       needed-size (m .held .y),
     )
 
-keyed-length : (delta : Axes) (n : ℕ) (m : Mouse) → size (m .held .x) ≤ n → size (m .held .y) ≤ n → length (bytes (keyed delta m .packets)) ≤ 4 * n
-unfolding keyed
-keyed-length delta n m hx hy =
+send-deltas-length : (delta : Axes) (n : ℕ) (m : Mouse) → size (m .held .x) ≤ n → size (m .held .y) ≤ n → length (bytes (packets-due (send-deltas delta m))) ≤ 4 * n
+unfolding send-deltas
+send-deltas-length delta n m hx hy =
     omega (
       arith,
-      arrows-length (quotients delta (m .held)),
+      due-bytes (send-deltas delta m),
       quotient-size (m .held .x) (acts-as (delta .x)),
       quotient-size (m .held .y) (acts-as (delta .y)),
     )
 
-due-length : (mode : MouseMode) (t : Axes) (n : ℕ) (m : Mouse) → size (m .held .x) ≤ n → size (m .held .y) ≤ n → length (bytes (motion-due mode t m .packets)) ≤ 4 * n
+due-length : (mode : MouseMode) (t : Axes) (n : ℕ) (m : Mouse) → size (m .held .x) ≤ n → size (m .held .y) ≤ n → length (bytes (packets-due (motion-due mode t m))) ≤ 4 * n
 unfolding motion-due
 due-length Relative t n m hx hy =
-    both-ways (λ (d : MouseDue). length (bytes (d .packets)) ≤ 4 * n) (either-reaches t (m .held))
-    (λ _. omega (arith, all-length 0 n m hx hy)) (λ _. omega arith)
-due-length (Absolute p) t n m hx hy = omega arith
-due-length (Keycode delta) t n m hx hy = keyed-length delta n m hx hy
+    both-ways (λ (d : MouseDue). length (bytes (packets-due d)) ≤ 4 * n) (either-reaches t (m .held))
+    (λ _. omega (arith, all-length 0 n m hx hy)) (λ _. few _ (omega arith))
+due-length (Absolute p) t n m hx hy = few _ (omega arith)
+due-length (Keycode delta) t n m hx hy = send-deltas-length delta n m hx hy
 
 -- At a resume, a make and break pair for each step of both axes at the most.
-pub released-length : (σ : Settings) (m : Mouse) → GoodMouse true σ m → length (bytes (released σ m .packets)) ≤ 4 * held-limit
+pub released-length : (σ : Settings) (m : Mouse) → GoodMouse true σ m → length (bytes (packets-due (released σ m))) ≤ 4 * held-limit
 unfolding released
 released-length σ m g =
     let h = held-small true σ m g in
-    both-ways (λ (d : MouseDue). length (bytes (d .packets)) ≤ 4 * held-limit) (live σ)
-    (λ _. due-length (σ .mouse) (σ .threshold) held-limit m (h .0) (h .1)) (λ _. omega arith)
+    both-ways (λ (d : MouseDue). length (bytes (packets-due d)) ≤ 4 * held-limit) (live σ)
+    (λ _. due-length (σ .mouse) (σ .threshold) held-limit m (h .0) (h .1)) (λ _. few _ (omega arith))
 
-applied-paused : (mode : MouseMode) (σ : Settings) (m : Mouse) → applied mode true σ m .packets ≡ []
-unfolding applied
-applied-paused Relative σ m = refl
-applied-paused (Absolute p) σ m = refl
-applied-paused (Keycode delta) σ m = refl
+live-motion-paused : (mode : MouseMode) (σ : Settings) (m : Mouse) → packets-due (live-motion mode true σ m) ≡ []
+unfolding live-motion
+live-motion-paused Relative σ m = quiet-due m
+live-motion-paused (Absolute p) σ m = quiet-due (coordinates-moved p (σ .scale) m)
+live-motion-paused (Keycode delta) σ m = quiet-due m
 
 -- While paused, motion sends nothing.
-pub moves-paused : (σ : Settings) (dx dy : ℤ) (m : Mouse) → moves true σ dx dy m .packets ≡ []
+pub moves-paused : (σ : Settings) (dx dy : ℤ) (m : Mouse) → packets-due (moves true σ dx dy m) ≡ []
 unfolding moves
 moves-paused σ dx dy m =
-    both-ways (λ (d : MouseDue). d .packets ≡ []) (live σ) (λ _. applied-paused (σ .mouse) σ (with-held (gathered σ dx dy (m .held)) m)) (λ _. refl)
+    both-ways (λ (d : MouseDue). packets-due d ≡ []) (live σ) (λ _. live-motion-paused (σ .mouse) σ (with-held (added-to-held σ dx dy (m .held)) m)) (λ _. quiet-due m)
 
-applied-length : (mode : MouseMode) (σ : Settings) (n : ℕ) (m : Mouse) → size (m .held .x) ≤ n → size (m .held .y) ≤ n → length (bytes (applied mode false σ m .packets)) ≤ 4 * n
-unfolding applied
-applied-length Relative σ n m hx hy = due-length Relative (σ .threshold) n m hx hy
-applied-length (Absolute p) σ n m hx hy = omega arith
-applied-length (Keycode delta) σ n m hx hy = due-length (Keycode delta) (σ .threshold) n m hx hy
+live-motion-length : (mode : MouseMode) (σ : Settings) (n : ℕ) (m : Mouse) → size (m .held .x) ≤ n → size (m .held .y) ≤ n → length (bytes (packets-due (live-motion mode false σ m))) ≤ 4 * n
+unfolding live-motion
+live-motion-length Relative σ n m hx hy = due-length Relative (σ .threshold) n m hx hy
+live-motion-length (Absolute p) σ n m hx hy = few _ (omega arith)
+live-motion-length (Keycode delta) σ n m hx hy = due-length (Keycode delta) (σ .threshold) n m hx hy
 
 -- A motion event that sends, not paused.
 pub moves-length : (σ : Settings) (dx dy : ℤ) (m : Mouse) → natAbs dx ≤ 64 → natAbs dy ≤ 64 → GoodMouse false σ m →
-    length (bytes (moves false σ dx dy m .packets)) ≤ 4 * held-limit
+    length (bytes (packets-due (moves false σ dx dy m))) ≤ 4 * held-limit
 unfolding moves
 moves-length σ dx dy m hx hy g =
-    both-ways (λ (d : MouseDue). length (bytes (d .packets)) ≤ 4 * held-limit) (live σ)
+    both-ways (λ (d : MouseDue). length (bytes (packets-due d)) ≤ 4 * held-limit) (live σ)
     (λ _. let h = held-unpaused σ m g in
-    let k = gathered-size σ dx dy (m .held) in
-    applied-length (σ .mouse) σ held-limit (with-held (gathered σ dx dy (m .held)) m) (omega (arith, h, k)) (omega (arith, h, k)))
-    (λ _. omega arith)
+    let k = added-to-held-size σ dx dy (m .held) in
+    live-motion-length (σ .mouse) σ held-limit (with-held (added-to-held σ dx dy (m .held)) m) (omega (arith, h, k)) (omega (arith, h, k)))
+    (λ _. few _ (omega arith))
 
 button-length : (mode : MouseMode) (action : ℕ) (side : Side) (down : Bool) (m : Mouse) → size (m .held .x) ≤ held-limit → size (m .held .y) ≤ held-limit →
-    length (bytes (live-button mode action side down m .packets)) ≤ 4 * held-limit
+    length (bytes (packets-due (live-button mode action side down m))) ≤ 4 * held-limit
 unfolding live-button report
 button-length Relative action side down m hx hy =
-    both-ways (λ (d : MouseDue). length (bytes (d .packets)) ≤ 4 * held-limit) (eqb action as-keys)
-    (λ _. omega arith) (λ _. omega (arith, all-length 1 held-limit m hx hy))
+    both-ways (λ (d : MouseDue). length (bytes (packets-due d)) ≤ 4 * held-limit) (eqb action as-keys)
+    (λ _. few _ (omega arith)) (λ _. omega (arith, all-length 1 held-limit m hx hy))
 button-length (Absolute p) action side down m hx hy =
-    both-ways (λ (d : MouseDue). length (bytes (d .packets)) ≤ 4 * held-limit) (eqb action as-keys)
-    (λ _. omega arith)
-    (λ _. both-ways (λ (d : MouseDue). length (bytes (d .packets)) ≤ 4 * held-limit) (reported action down) (λ _. omega arith) (λ _. omega arith))
-button-length (Keycode delta) action side down m hx hy = omega arith
-
-level-held : (side : Side) (down : Bool) (m : Mouse) → with-level side down m .held ≡ m .held
-level-held Left down m = refl
-level-held Right down m = refl
+    both-ways (λ (d : MouseDue). length (bytes (packets-due d)) ≤ 4 * held-limit) (eqb action as-keys)
+    (λ _. few _ (omega arith))
+    (λ _. both-ways (λ (d : MouseDue). length (bytes (packets-due d)) ≤ 4 * held-limit) (action-reports action down) (λ _. few _ (omega arith)) (λ _. few _ (omega arith)))
+button-length (Keycode delta) action side down m hx hy = few _ (omega arith)
 
 -- A button event.
 pub presses-length : (paused : Bool) (σ : Settings) (side : Side) (down : Bool) (m : Mouse) → GoodMouse paused σ m →
-    length (bytes (presses σ side down m .packets)) ≤ 4 * held-limit
+    length (bytes (packets-due (presses σ side down m))) ≤ 4 * held-limit
 unfolding presses
 presses-length paused σ side down m g =
     let h = held-small paused σ m g in
-    both-ways (λ (d : MouseDue). length (bytes (d .packets)) ≤ 4 * held-limit) (cond down (level side m) (not (level side m)))
-    (λ _. omega arith)
-    (λ _. both-ways (λ (d : MouseDue). length (bytes (d .packets)) ≤ 4 * held-limit) (live σ)
+    both-ways (λ (d : MouseDue). length (bytes (packets-due d)) ≤ 4 * held-limit) (cond down (level side m) (not (level side m)))
+    (λ _. few _ (omega arith))
+    (λ _. both-ways (λ (d : MouseDue). length (bytes (packets-due d)) ≤ 4 * held-limit) (live σ)
     (λ _. button-length (σ .mouse) (σ .action) side down (with-level side down m) (rw (level-held side down m) (h .0)) (rw (level-held side down m) (h .1)))
-    (λ _. omega arith))
+    (λ _. few _ (omega arith)))
 
 -- What a command of the mouse sends of its own.
-pub commanded-length : (c : MouseCommand) (ps : List ℕ) (mode : MouseMode) (m : Mouse) → length (bytes (commanded c ps mode m .packets)) ≤ 6
+pub commanded-length : (c : MouseCommand) (ps : List ℕ) (mode : MouseMode) (m : Mouse) → length (bytes (packets-due (commanded c ps mode m))) ≤ 6
 unfolding commanded report
-commanded-length SetAction ps mode m = omega arith
-commanded-length SetRelative ps mode m = omega arith
-commanded-length SetAbsolute ps mode m = omega arith
-commanded-length SetKeycode ps mode m = omega arith
-commanded-length SetThreshold ps mode m = omega arith
-commanded-length SetScale ps mode m = omega arith
-commanded-length ReportPosition ps mode m = omega arith
-commanded-length LoadPosition ps mode m = omega arith
-commanded-length OriginBottom ps mode m = omega arith
-commanded-length OriginTop ps mode m = omega arith
+commanded-length SetAction ps mode m = few _ (omega arith)
+commanded-length SetRelative ps mode m = few _ (omega arith)
+commanded-length SetAbsolute ps mode m = few _ (omega arith)
+commanded-length SetKeycode ps mode m = few _ (omega arith)
+commanded-length SetThreshold ps mode m = few _ (omega arith)
+commanded-length SetScale ps mode m = few _ (omega arith)
+commanded-length ReportPosition ps mode m = few _ (omega arith)
+commanded-length LoadPosition ps mode m = few _ (omega arith)
+commanded-length OriginBottom ps mode m = few _ (omega arith)
+commanded-length OriginTop ps mode m = few _ (omega arith)

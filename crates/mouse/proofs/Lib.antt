@@ -1,3 +1,4 @@
+pub mod Dues
 pub mod States
 pub mod Lengths
 pub mod Conserved

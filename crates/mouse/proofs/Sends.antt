@@ -12,9 +12,8 @@ use Rattle.output.proofs.Packets.{bytes-append, pairs-length}
 use Rattle.output.proofs.Writing.{both, none, kept}
 use Rattle.motion.specs.declared.Motion.{Motion}
 use Rattle.motion.specs.declared.Motions.{Motions}
-use Rattle.motion.specs.Motion.{size, part, left-over, byte}
-use Rattle.mouse.specs.Reports.{split}
-use Rattle.mouse.specs.Moves.{arrows}
+use Rattle.motion.specs.Motion.{size, part, after-part, byte}
+use Rattle.mouse.specs.Sending.{split, arrows}
 
 -- Where the writer's loop tests: `front` is written, and with the packets that are still to come it is all that is sent.
 pub record Going (n levels : ℕ) (d : Motions) (l X : List ℕ) (x y : Motion) (rest at : ℕ) : Type 0 where
@@ -31,7 +30,7 @@ module _ (n levels : ℕ) (d : Motions) (l : List ℕ) where
   -- one packet, with what the calls gave
   pub turn : {X Y : List ℕ} {x y x' y' : Motion} {rest at first p q k : ℕ} → Going n levels d l X x y rest at → 0 < rest →
       first ≡ 0xF8 + levels → p ≡ byte (part x) → q ≡ byte (part y) → Wrote (first ∷ p ∷ q ∷ []) k (take (length X - at) (drop at X)) Y →
-      x' ≡ left-over x → y' ≡ left-over y →
+      x' ≡ after-part x → y' ≡ after-part y →
       Going n levels d l (take at X ++ (Y ++ drop (length X - at) (drop at X))) x' y' (rest - 1) (at + k)
   unfolding split
   turn {X} {Y} {x} {y} {x'} {y'} {rest} {at} {first} {p} {q} {k} g h ef ep eq w ex ey =

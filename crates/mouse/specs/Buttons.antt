@@ -1,10 +1,9 @@
 -- The mouse's buttons (document 01, "The mouse").
 use Prim.Native.Nat.{ℕ, _/_, _%_}
 use mathlib.Core.Bool.{Bool, true, false, cond, not}
-use mathlib.Core.List.{List, [], _∷_}
 use lib.Dec.{eqb}
 use Rattle.output.specs.ScanCodes.{code-sent, key-left, key-right}
-use Rattle.output.specs.Packets.{Packet, scan}
+use Rattle.output.specs.Packets.{scan}
 use Rattle.protocol.specs.declared.MouseMode.{MouseMode}
 use Rattle.protocol.specs.declared.MouseMode.the-variants.{Relative, Absolute, Keycode}
 use Rattle.protocol.specs.declared.Settings.{Settings}
@@ -13,7 +12,7 @@ use Rattle.mouse.specs.declared.Mouse.{Mouse}
 use Rattle.mouse.specs.declared.Side.{Side}
 use Rattle.mouse.specs.declared.Side.the-variants.{Left, Right}
 use Rattle.mouse.specs.Mouse.{live, with-latches}
-use Rattle.mouse.specs.Reports.{MouseDue, quiet, send-all, report}
+use Rattle.mouse.specs.Reports.{MouseDue, quiet, one-packet, send-all, report}
 
 -- one of the state's "button levels": whether this button is down
 abbrev pub level : Side → Mouse → Bool
@@ -42,12 +41,12 @@ abbrev pub as-keys : ℕ
 as-keys = 4
 
 -- "with action bit 0 a press, with bit 1 a release, sends the same report"
-abbrev pub reported : ℕ → Bool → Bool
-reported action down = eqb (cond down action (action / 2) % 2) 1
+abbrev pub action-reports : ℕ → Bool → Bool
+action-reports action down = eqb (cond down action (action / 2) % 2) 1
 
 -- a button as a key
-abbrev pub keyed-button : Side → Bool → Mouse → MouseDue
-keyed-button side down m = record { packets = scan (code-sent (key-of side) down) ∷ []; mouse = m }
+abbrev pub button-as-key : Side → Bool → Mouse → MouseDue
+button-as-key side down m = one-packet (scan (code-sent (key-of side) down)) m
 
 -- "In this mode a live button, with any action, sets its latch"
 abbrev pub with-latch : Side → Bool → Mouse → Mouse
@@ -56,12 +55,12 @@ with-latch side down m = with-latches (latched side down (m .latches)) m
 -- A live button whose level has changed, in each mode. "A button with action 0 to 3 sends all held motion with the new levels, at least one packet";
 -- in absolute mode it may report "without clearing"; "Buttons with action 4 or in this mode are keys".
 unfoldable pub live-button : MouseMode → ℕ → Side → Bool → Mouse → MouseDue
-live-button Relative action side down m = cond (eqb action as-keys) (keyed-button side down m) (send-all 1 m)
+live-button Relative action side down m = cond (eqb action as-keys) (button-as-key side down m) (send-all 1 m)
 live-button (Absolute maximum) action side down m =
     let l = with-latch side down m in
-    cond (eqb action as-keys) (keyed-button side down l)
-    (cond (reported action down) (record { packets = report l ∷ []; mouse = l }) (quiet l))
-live-button (Keycode delta) action side down m = keyed-button side down m
+    cond (eqb action as-keys) (button-as-key side down l)
+    (cond (action-reports action down) (one-packet (report l) l) (quiet l))
+live-button (Keycode delta) action side down m = button-as-key side down m
 
 -- A button event: "An unchanged level does nothing"; not live, "buttons only change their level".
 unfoldable pub presses : Settings → Side → Bool → Mouse → MouseDue

@@ -1,6 +1,6 @@
 -- The mouse's part of the state: its ranges, power-up, and when the mouse is live (document 01, "What the state holds" and "The mouse").
 use Prim.Native.Nat.{ℕ, _≤_}
-use mathlib.Core.Bool.{Bool, true, false, cond, not, _&&_}
+use mathlib.Core.Bool.{Bool, false, cond, not, _&&_}
 use Rattle.motion.specs.declared.Motions.{Motions}
 use Rattle.motion.specs.Motion.{OneSided, size, at-rest}
 use Rattle.protocol.specs.declared.Point.{Point}
@@ -24,12 +24,12 @@ abbrev pub held-limit : ℕ
 held-limit = 2032
 
 -- "held motion is -254 to 254"
-abbrev pub held-below : ℕ
-held-below = 254
+abbrev pub held-usual : ℕ
+held-usual = 254
 
 -- "and beyond that, to 2,032 either way, only while paused with the mouse live in relative or keycode mode"
 unfoldable pub held-most : Bool → Settings → ℕ
-held-most paused σ = cond (paused && gathers σ) held-limit held-below
+held-most paused σ = cond (paused && gathers σ) held-limit held-usual
 
 -- coordinates of 0: "outside absolute mode", at power-up, and where 0x08, 0x09, 0x0A "zero the coordinates"; not the "Y origin"
 abbrev pub origin : Point
@@ -48,7 +48,7 @@ pub record IsMouse (paused : Bool) (σ : Settings) (m : Mouse) : Type 0 where
   pub held-x : size (m .held .x) ≤ held-most paused σ
   pub held-y : size (m .held .y) ≤ held-most paused σ
 
--- what the code asks of held motion: it is within its limit, whatever the mode
+-- what the code of a motion event asks: held motion is within its limit, whatever the mode, so that sums with any motion of 16 bits fit
 abbrev pub WithinLimit : Mouse → Type 0
 WithinLimit m = (size (m .held .x) ≤ held-limit) × (size (m .held .y) ≤ held-limit)
 
@@ -69,9 +69,13 @@ at-power-up = record { place = origin; held = at-rest; left = false; right = fal
 abbrev pub with-place : Point → Mouse → Mouse
 with-place p m = record { place = p; held = m .held; left = m .left; right = m .right; latches = m .latches }
 
--- "held motion" put in place of what was held: with motion added, its remainder, or none once it is sent or cleared
+-- "held motion" put in place of what was held: with motion added, its remainder, or none; nothing else changes
 abbrev pub with-held : Motions → Mouse → Mouse
 with-held h m = record { place = m .place; held = h; left = m .left; right = m .right; latches = m .latches }
+
+-- "clear held motion"; and once "all is sent" none is held
+abbrev pub without-motion : Mouse → Mouse
+without-motion m = with-held at-rest m
 
 -- the "four button latches" put in place of those before; nothing else changes
 abbrev pub with-latches : Latches → Mouse → Mouse

@@ -1,14 +1,10 @@
 -- Motion of the mouse in its three modes, and what of it is due at a resume (document 01, "The mouse").
-use Prim.Native.Nat.{ℕ, _+_, max}
-use mathlib.Core.Bool.{Bool, true, false, cond, not, _&&_, _||_}
-use mathlib.Core.List.{List, [], _∷_, _++_}
+use mathlib.Core.Bool.{Bool, false, cond, _&&_, _||_}
+use mathlib.Core.List.{[]}
 use lib.Dec.{ltb}
 use lib.IntN.{ℤ}
-use Rattle.output.specs.ScanCodes.{arrow-right, arrow-left, arrow-up, arrow-down}
-use Rattle.output.specs.Packets.{Packet, pairs}
-use Rattle.motion.specs.declared.Motion.{Motion}
 use Rattle.motion.specs.declared.Motions.{Motions}
-use Rattle.motion.specs.Motion.{size, of-signed, sum, opposite, reaches, quotient, remainder, moved}
+use Rattle.motion.specs.Motion.{size, at-rest, of-signed, sum, opposite, reaches, quotient, remainder, coordinate-after}
 use Rattle.protocol.specs.declared.Axes.{Axes}
 use Rattle.protocol.specs.declared.Point.{Point}
 use Rattle.protocol.specs.declared.MouseMode.{MouseMode}
@@ -20,27 +16,27 @@ use Rattle.mouse.specs.Mouse.{live, gathers, held-limit, with-held}
 use Rattle.mouse.specs.Reports.{MouseDue, quiet, send-all}
 
 -- whether dy is negated: at "Origin bottom", "except in keycode mode"
-abbrev pub turns-y : MouseMode → Bool → Bool
-turns-y Relative bottom = bottom
-turns-y (Absolute maximum) bottom = bottom
-turns-y (Keycode delta) bottom = false
+abbrev pub negates-dy : MouseMode → Bool → Bool
+negates-dy Relative bottom = bottom
+negates-dy (Absolute maximum) bottom = bottom
+negates-dy (Keycode delta) bottom = false
 
 -- "Origin bottom negates dy as the event comes in, except in keycode mode."
 unfoldable pub incoming : Settings → ℤ → ℤ → Motions
 incoming σ dx dy = record {
   x = of-signed dx;
-  y = cond (turns-y (σ .mouse) (σ .bottom)) (opposite (of-signed dy)) (of-signed dy);
+  y = cond (negates-dy (σ .mouse) (σ .bottom)) (opposite (of-signed dy)) (of-signed dy);
 }
 
 -- "In every mode live motion is first added to the held motion."
-unfoldable pub gathered : Settings → ℤ → ℤ → Motions → Motions
-gathered σ dx dy held = record { x = sum (held .x) (incoming σ dx dy .x); y = sum (held .y) (incoming σ dx dy .y) }
+unfoldable pub added-to-held : Settings → ℤ → ℤ → Motions → Motions
+added-to-held σ dx dy held = record { x = sum (held .x) (incoming σ dx dy .x); y = sum (held .y) (incoming σ dx dy .y) }
 
 -- "if either axis reaches its threshold"
 unfoldable pub either-reaches : Axes → Motions → Bool
 either-reaches threshold d = reaches (d .x) (acts-as (threshold .x)) || reaches (d .y) (acts-as (threshold .y))
 
--- both axes divided, by scales or deltas
+-- "divided by the scale toward zero", along both axes; in keycode mode by the deltas
 abbrev pub quotients : Axes → Motions → Motions
 quotients scale d = record { x = quotient (d .x) (acts-as (scale .x)); y = quotient (d .y) (acts-as (scale .y)) }
 
@@ -48,22 +44,26 @@ quotients scale d = record { x = quotient (d .x) (acts-as (scale .x)); y = quoti
 abbrev pub remainders : Axes → Motions → Motions
 remainders scale d = record { x = remainder (d .x) (acts-as (scale .x)); y = remainder (d .y) (acts-as (scale .y)) }
 
--- "a make and break pair, all X first: 0x4D right, 0x4B left, 0x48 up, 0x50 down"; of each axis one side is 0
-unfoldable pub arrows : Motions → List Packet
-arrows d =
-    pairs (d .x .plus) arrow-right ++ (pairs (d .x .minus) arrow-left
-    ++ (pairs (d .y .plus) arrow-down ++ pairs (d .y .minus) arrow-up))
-
 -- "each whole delta in the held motion sends a make and break pair ... the remainder stays"
-unfoldable pub keyed : Axes → Mouse → MouseDue
-keyed delta m = record { packets = arrows (quotients delta (m .held)); mouse = with-held (remainders delta (m .held)) m }
+unfoldable pub send-deltas : Axes → Mouse → MouseDue
+send-deltas delta m = record {
+  sending = record {
+    packets = 0;
+    left = false;
+    right = false;
+    held = at-rest;
+    arrows = quotients delta (m .held);
+  };
+  others = [];
+  mouse = with-held (remainders delta (m .held)) m;
+}
 
 -- "held motion, divided by the scale toward zero, moves the coordinate; the remainder stays"
-unfoldable pub steered : Point → Axes → Mouse → Mouse
-steered maximum scale m = record {
+unfoldable pub coordinates-moved : Point → Axes → Mouse → Mouse
+coordinates-moved maximum scale m = record {
   place = record {
-    x = moved (maximum .x) (m .place .x) (quotients scale (m .held) .x);
-    y = moved (maximum .y) (m .place .y) (quotients scale (m .held) .y);
+    x = coordinate-after (maximum .x) (m .place .x) (quotients scale (m .held) .x);
+    y = coordinate-after (maximum .y) (m .place .y) (quotients scale (m .held) .y);
   };
   held = remainders scale (m .held);
   left = m .left;
@@ -75,25 +75,29 @@ steered maximum scale m = record {
 unfoldable pub motion-due : MouseMode → Axes → Mouse → MouseDue
 motion-due Relative threshold m = cond (either-reaches threshold (m .held)) (send-all 0 m) (quiet m)
 motion-due (Absolute maximum) threshold m = quiet m
-motion-due (Keycode delta) threshold m = keyed delta m
+motion-due (Keycode delta) threshold m = send-deltas delta m
 
 -- at a resume: "then held motion that is due (if the mouse is live)"
 unfoldable pub released : Settings → Mouse → MouseDue
 released σ m = cond (live σ) (motion-due (σ .mouse) (σ .threshold) m) (quiet m)
 
+-- "While paused, a command that is executed ... first resumes": not paused, nothing is resumed
+abbrev pub resumed : Bool → Settings → Mouse → MouseDue
+resumed paused σ m = cond paused (released σ m) (quiet m)
+
 -- live motion, once it is added to the held motion: paused, it stays held, but for absolute mode, which moves all the same
-unfoldable pub applied : MouseMode → Bool → Settings → Mouse → MouseDue
-applied Relative paused σ m = cond paused (quiet m) (motion-due Relative (σ .threshold) m)
-applied (Absolute maximum) paused σ m = quiet (steered maximum (σ .scale) m)
-applied (Keycode delta) paused σ m = cond paused (quiet m) (motion-due (Keycode delta) (σ .threshold) m)
+unfoldable pub live-motion : MouseMode → Bool → Settings → Mouse → MouseDue
+live-motion Relative paused σ m = cond paused (quiet m) (motion-due Relative (σ .threshold) m)
+live-motion (Absolute maximum) paused σ m = quiet (coordinates-moved maximum (σ .scale) m)
+live-motion (Keycode delta) paused σ m = cond paused (quiet m) (motion-due (Keycode delta) (σ .threshold) m)
 
 -- A motion event; not live, "motion is dropped".
 unfoldable pub moves : Bool → Settings → ℤ → ℤ → Mouse → MouseDue
 moves paused σ dx dy m =
-    cond (live σ) (applied (σ .mouse) paused σ (with-held (gathered σ dx dy (m .held)) m)) (quiet m)
+    cond (live σ) (live-motion (σ .mouse) paused σ (with-held (added-to-held σ dx dy (m .held)) m)) (quiet m)
 
--- the third refusal, while paused: "held motion on an axis would leave -2,032 to 2,032"
+-- the third refusal, but for the pause: "mouse live in relative or keycode mode, and held motion on an axis would leave -2,032 to 2,032"
 unfoldable pub overflows : Settings → ℤ → ℤ → Mouse → Bool
 overflows σ dx dy m =
     gathers σ
-    && (ltb held-limit (size (gathered σ dx dy (m .held) .x)) || ltb held-limit (size (gathered σ dx dy (m .held) .y)))
+    && (ltb held-limit (size (added-to-held σ dx dy (m .held) .x)) || ltb held-limit (size (added-to-held σ dx dy (m .held) .y)))

@@ -1,43 +1,44 @@
--- The mouse's packets: motion split into packets, and the absolute report (document 01, "The mouse").
-use Prim.Native.Nat.{ℕ, zero, suc, _+_, _*_, max}
-use mathlib.Core.Bool.{Bool}
-use mathlib.Core.List.{List, [], _∷_}
-use Rattle.output.specs.Packets.{Packet, motion, position, bit}
-use Rattle.motion.specs.declared.Motions.{Motions}
-use Rattle.motion.specs.Motion.{at-rest, part, left-over, byte, packets-needed}
+-- What something that happens to the mouse leads to, and two things that it can be: all held motion sent, and the absolute report (document 01, "The mouse").
+use Prim.Native.Nat.{ℕ, _+_, _*_, max}
+use mathlib.Core.List.{List, [], _∷_, _++_}
+use Rattle.output.specs.Packets.{Packet, position, bit}
+use Rattle.motion.specs.Motion.{at-rest}
 use Rattle.mouse.specs.declared.Latches.{Latches}
 use Rattle.mouse.specs.declared.Mouse.{Mouse}
-use Rattle.mouse.specs.Mouse.{with-held}
+use Rattle.mouse.specs.declared.Sending.{Sending}
+use Rattle.mouse.specs.Mouse.{without-motion}
+use Rattle.mouse.specs.Sending.{packets-for, packets-sent, nothing-sent}
 
--- what something that happens to the mouse leads to: the packets that fall due, in order, and the mouse afterwards
+-- what something that happens to the mouse leads to: what is sent of held motion, the packets that follow it, and the mouse afterwards
 pub record MouseDue : Type 0 where
-  pub packets : List Packet
+  pub sending : Sending
+  pub others : List Packet
   pub mouse : Mouse
+
+-- the packets that fall due, in order (document 01's "due")
+abbrev pub packets-due : MouseDue → List Packet
+packets-due d = packets-sent (d .sending) ++ d .others
 
 -- nothing falls due; the mouse is as given, changed before or not ("An unchanged level does nothing", "motion is dropped")
 abbrev pub quiet : Mouse → MouseDue
-quiet m = record { packets = []; mouse = m }
+quiet m = record { sending = nothing-sent; others = []; mouse = m }
 
--- "0xF8 + 2·left + right"
-abbrev pub buttons : Mouse → ℕ
-buttons m = 2 * bit (m .left) + bit (m .right)
-
--- n packets; "each takes as much as -128 to 127 allows of what is left, per axis"
-unfoldable pub split : ℕ → ℕ → Motions → List Packet
-split zero levels d = []
-split (suc n) levels d =
-    motion levels (byte (part (d .x))) (byte (part (d .y)))
-    ∷ split n levels (record { x = left-over (d .x); y = left-over (d .y) })
-
--- "The fewest packets are sent"
-abbrev pub packets-for : Motions → ℕ
-packets-for d = max (packets-needed (d .x)) (packets-needed (d .y))
+-- one packet falls due, and nothing of held motion
+abbrev pub one-packet : Packet → Mouse → MouseDue
+one-packet p m = record { sending = nothing-sent; others = p ∷ []; mouse = m }
 
 -- "all is sent", with the levels as they are now, in `least` packets at least; it is then no longer held
 unfoldable pub send-all : ℕ → Mouse → MouseDue
 send-all least m = record {
-  packets = split (max least (packets-for (m .held))) (buttons m) (m .held);
-  mouse = with-held at-rest m;
+  sending = record {
+    packets = max least (packets-for (m .held));
+    left = m .left;
+    right = m .right;
+    held = m .held;
+    arrows = at-rest;
+  };
+  others = [];
+  mouse = without-motion m;
 }
 
 -- "latches (1 right down, 2 right up, 4 left down, 8 left up)"

@@ -1,43 +1,38 @@
--- How the code hands on what happens to the mouse: held motion as a number of packets or as arrow keys, anything else as a short run of bytes.
-use Prim.Native.Nat.{ℕ, _+_, _*_, _≤_}
-use mathlib.Core.Path.{_≡_}
-use mathlib.Core.Bool.{false}
-use mathlib.Core.List.{List, _++_}
-use Rattle.output.specs.Packets.{Packet, bytes, bit}
-use Rattle.output.specs.declared.Short.{Short}
-use Rattle.output.specs.Short.{short-of, short-bytes, IsShort}
-use Rattle.motion.specs.Motion.{at-rest}
-use Rattle.mouse.specs.declared.Mouse.{Mouse}
+-- Held motion as it is sent: packets of motion, or arrow keys (document 01, "The mouse"). When it is sent, and what else, is said elsewhere.
+use Prim.Native.Nat.{ℕ, zero, suc, _+_, _*_, max}
+use mathlib.Core.Bool.{Bool, false}
+use mathlib.Core.List.{List, [], _∷_, _++_}
+use Rattle.output.specs.ScanCodes.{arrow-right, arrow-left, arrow-up, arrow-down}
+use Rattle.output.specs.Packets.{Packet, motion, pairs, bit}
+use Rattle.motion.specs.declared.Motions.{Motions}
+use Rattle.motion.specs.Motion.{at-rest, part, after-part, byte, packets-needed}
 use Rattle.mouse.specs.declared.Sending.{Sending}
-use Rattle.mouse.specs.declared.Moved.{Moved}
-use Rattle.mouse.specs.declared.Pressed.{Pressed}
-use Rattle.mouse.specs.declared.Commanded.{Commanded}
-use Rattle.mouse.specs.Reports.{MouseDue, split}
-use Rattle.mouse.specs.Moves.{arrows}
 
--- the packets that are sent of held motion
+-- "2·left + right", which a packet adds to 0xF8
+abbrev pub buttons : Bool → Bool → ℕ
+buttons left right = 2 * bit left + bit right
+
+-- n packets; "each takes as much as -128 to 127 allows of what is left, per axis"
+unfoldable pub split : ℕ → ℕ → Motions → List Packet
+split zero levels d = []
+split (suc n) levels d =
+    motion levels (byte (part (d .x))) (byte (part (d .y)))
+    ∷ split n levels (record { x = after-part (d .x); y = after-part (d .y) })
+
+-- "The fewest packets are sent"
+abbrev pub packets-for : Motions → ℕ
+packets-for d = max (packets-needed (d .x)) (packets-needed (d .y))
+
+-- "a make and break pair, all X first: 0x4D right, 0x4B left, 0x48 up, 0x50 down"; of each axis one side is 0
+unfoldable pub arrows : Motions → List Packet
+arrows d =
+    pairs (d .x .plus) arrow-right ++ (pairs (d .x .minus) arrow-left
+    ++ (pairs (d .y .plus) arrow-down ++ pairs (d .y .minus) arrow-up))
+
+-- the packets that are sent of held motion, in the code's words for it: so many packets of motion, and these arrow keys
 unfoldable pub packets-sent : Sending → List Packet
-packets-sent d = split (d .packets) (2 * bit (d .left) + bit (d .right)) (d .held) ++ arrows (d .arrows)
+packets-sent s = split (s .packets) (buttons (s .left) (s .right)) (s .held) ++ arrows (s .arrows)
 
 -- no packet and no arrow
 abbrev pub nothing-sent : Sending
 nothing-sent = record { packets = 0; left = false; right = false; held = at-rest; arrows = at-rest }
-
--- a button that sends nothing but a short run of bytes
-abbrev pub only-short : Short → Mouse → Pressed
-only-short short m = record { sending = nothing-sent; short = short; mouse = m }
-
--- motion, or a resume, came to what it should
-pub record MovedAs (d : MouseDue) (r : Moved) : Type 0 where
-  pub packets : packets-sent (r .sending) ≡ d .packets
-  pub mouse : r .mouse ≡ d .mouse
-
--- a button came to what it should
-pub record PressedAs (d : MouseDue) (r : Pressed) : Type 0 where
-  pub bytes : bytes (packets-sent (r .sending)) ++ short-bytes (r .short) ≡ bytes (d .packets)
-  pub short : IsShort (r .short)
-  pub mouse : r .mouse ≡ d .mouse
-
--- a command's outcome as the code hands it on
-abbrev pub commanded-of : MouseDue → Commanded
-commanded-of d = record { short = short-of (bytes (d .packets)); mouse = d .mouse }

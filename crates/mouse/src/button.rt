@@ -2,53 +2,51 @@
 ghost use mathlib.Core.Path.{_≡_};
 ghost use mathlib.Core.Bool.{cond, not};
 ghost use Rattle.protocol.specs.declared.MouseMode.the-variants.{Relative, Absolute};
-ghost use Rattle.mouse.specs.Mouse.{WithinLimit, origin};
-ghost use Rattle.mouse.specs.Buttons.{level, with-level, key-of, latched, with-latch, reported, keyed-button, live-button, presses};
-ghost use Rattle.mouse.specs.Sending.{PressedAs, only-short};
+ghost use Rattle.mouse.specs.Mouse.{origin};
+ghost use Rattle.mouse.specs.Buttons.{level, with-level, key-of, latched, with-latch, action-reports, button-as-key, live-button, presses};
+ghost use Rattle.mouse.specs.Handing.{pressed-of, only-short};
 use crate::Latches;
 use crate::Mouse;
 use crate::Pressed;
 use crate::Sending;
 use crate::Side;
+use output::ScanCode;
 use output::Short;
 use protocol::MouseMode;
 use protocol::Settings;
 
 impl Mouse {
     pub fn presses(self, settings: Settings, side: Side, down: bool) -> Pressed
-        requires { ⌜ WithinLimit self ⌝ }
-        ensures { λ r. ⌜ PressedAs (presses settings side down self) r ⌝ }
+        ensures { λ r. ⌜ r ≡ pressed-of (presses settings side down self) ⌝ }
     {
         if self.unchanged(side, down) {
-            return self.says(Short::none());
+            return self.only_short(Short::none());
         }
         let next = self.with_level(side, down);
         if !crate::live(settings) {
-            return next.says(Short::none());
+            return next.only_short(Short::none());
         }
         let mode = settings.mouse;
-        next.pressed(mode, settings.action, side, down)
+        next.live_button(mode, settings.action, side, down)
     }
 
     // A live button whose level has changed, in each mode.
-    fn pressed(self, mode: MouseMode, action: u8, side: Side, down: bool) -> Pressed
-        requires { ⌜ WithinLimit self ⌝ }
-        ensures { λ r. ⌜ PressedAs (live-button mode action side down self) r ⌝ }
+    fn live_button(self, mode: MouseMode, action: u8, side: Side, down: bool) -> Pressed
+        ensures { λ r. ⌜ r ≡ pressed-of (live-button mode action side down self) ⌝ }
     {
         match mode {
-            MouseMode::Relative => self.pressed_relative(action, side, down),
-            MouseMode::Absolute { maximum: _ } => self.pressed_absolute(action, side, down),
-            MouseMode::Keycode { delta: _ } => self.pressed_key(side, down),
+            MouseMode::Relative => self.relative_button(action, side, down),
+            MouseMode::Absolute { maximum: _ } => self.absolute_button(action, side, down),
+            MouseMode::Keycode { delta: _ } => self.button_as_key(side, down),
         }
     }
 
     // All held motion is sent with the new levels; action 4 makes the buttons keys.
-    fn pressed_relative(self, action: u8, side: Side, down: bool) -> Pressed
-        requires { ⌜ WithinLimit self ⌝ }
-        ensures { λ r. ⌜ PressedAs (live-button Relative action side down self) r ⌝ }
+    fn relative_button(self, action: u8, side: Side, down: bool) -> Pressed
+        ensures { λ r. ⌜ r ≡ pressed-of (live-button Relative action side down self) ⌝ }
     {
         if action == 4 {
-            return self.pressed_key(side, down);
+            return self.button_as_key(side, down);
         }
         let sent = self.send_all(1);
         let sending = sent.sending;
@@ -61,28 +59,28 @@ impl Mouse {
     }
 
     // The latch is set whatever the action, which says whether a report goes out. The maximum plays no part.
-    fn pressed_absolute(self, action: u8, side: Side, down: bool) -> Pressed
-        ensures { λ r. ⌜ PressedAs (live-button (Absolute origin) action side down self) r ⌝ }
+    fn absolute_button(self, action: u8, side: Side, down: bool) -> Pressed
+        ensures { λ r. ⌜ r ≡ pressed-of (live-button (Absolute origin) action side down self) ⌝ }
     {
         let next = self.with_latch(side, down);
         if action == 4 {
-            return next.pressed_key(side, down);
+            return next.button_as_key(side, down);
         }
-        if reported(action, down) {
-            return next.says(next.report());
+        if action_reports(action, down) {
+            return next.only_short(next.report());
         }
-        next.says(Short::none())
+        next.only_short(Short::none())
     }
 
     // A button as a key.
-    fn pressed_key(self, side: Side, down: bool) -> Pressed
-        ensures { λ r. ⌜ PressedAs (keyed-button side down self) r ⌝ }
+    fn button_as_key(self, side: Side, down: bool) -> Pressed
+        ensures { λ r. ⌜ r ≡ pressed-of (button-as-key side down self) ⌝ }
     {
-        self.says(Short::one(output::code_sent(key_of(side), down)))
+        self.only_short(Short::one(output::code_sent(key_of(side), down)))
     }
 
     // Nothing goes out but a short run of bytes.
-    fn says(self, short: Short) -> Pressed
+    fn only_short(self, short: Short) -> Pressed
         ensures { λ r. ⌜ r ≡ only-short short self ⌝ }
     {
         Pressed {
@@ -112,23 +110,22 @@ impl Mouse {
         }
     }
 
-    fn with_level(self, side: Side, down: bool) -> Mouse
+    fn with_level(mut self, side: Side, down: bool) -> Mouse
         ensures { λ r. ⌜ r ≡ with-level side down self ⌝ }
     {
         match side {
-            Side::Left => Mouse { left: down, ..self },
-            Side::Right => Mouse {
-                right: down,
-                ..self
-            },
+            Side::Left => self.left = down,
+            Side::Right => self.right = down,
         }
+        self
     }
 
-    fn with_latch(self, side: Side, down: bool) -> Mouse
+    fn with_latch(mut self, side: Side, down: bool) -> Mouse
         ensures { λ r. ⌜ r ≡ with-latch side down self ⌝ }
     {
-        let latches = latched(self.latches, side, down);
-        Mouse { latches, ..self }
+        let latches = self.latches;
+        self.latches = latches.latched(side, down);
+        self
     }
 }
 
@@ -136,39 +133,38 @@ fn key_of(side: Side) -> u8
     ensures { λ r. ⌜ r ≡ key-of side ⌝ }
 {
     match side {
-        Side::Left => 0x74,
-        Side::Right => 0x75,
+        Side::Left => ScanCode::KEY_LEFT,
+        Side::Right => ScanCode::KEY_RIGHT,
     }
 }
 
-fn latched(l: Latches, side: Side, down: bool) -> Latches
-    ensures { λ r. ⌜ r ≡ latched side down l ⌝ }
-{
-    match side {
-        Side::Left => {
-            if down {
-                return Latches {
-                    leftdown: true,
-                    ..l
-                };
+impl Latches {
+    fn latched(mut self, side: Side, down: bool) -> Self
+        ensures { λ r. ⌜ r ≡ latched side down self ⌝ }
+    {
+        match side {
+            Side::Left => {
+                if down {
+                    self.leftdown = true;
+                } else {
+                    self.leftup = true;
+                }
             }
-            Latches { leftup: true, ..l }
-        }
-        Side::Right => {
-            if down {
-                return Latches {
-                    rightdown: true,
-                    ..l
-                };
+            Side::Right => {
+                if down {
+                    self.rightdown = true;
+                } else {
+                    self.rightup = true;
+                }
             }
-            Latches { rightup: true, ..l }
         }
+        self
     }
 }
 
 // Action bit 0 reports a press, bit 1 a release.
-fn reported(action: u8, down: bool) -> bool
-    ensures { λ r. ⌜ r ≡ reported action down ⌝ }
+fn action_reports(action: u8, down: bool) -> bool
+    ensures { λ r. ⌜ r ≡ action-reports action down ⌝ }
 {
     if down {
         return action % 2 == 1;

@@ -3,10 +3,10 @@ ghost use mathlib.Core.Path.{_≡_};
 ghost use Prim.Native.Nat.{_+_, _*_};
 ghost use Rattle.output.specs.Packets.{bytes-of};
 ghost use Rattle.output.specs.Short.{short-of};
-ghost use Rattle.mouse.specs.Mouse.{maximum-of, no-latches, with-latches};
+ghost use Rattle.mouse.specs.Mouse.{maximum-of, no-latches, with-latches, without-motion};
 ghost use Rattle.mouse.specs.Reports.{quiet, latch-byte, report};
 ghost use Rattle.mouse.specs.Commands.{started-anew, loaded, commanded, switched-off};
-ghost use Rattle.mouse.specs.Sending.{commanded-of};
+ghost use Rattle.mouse.specs.Handing.{commanded-of};
 use crate::Commanded;
 use crate::Latches;
 use crate::Mouse;
@@ -41,8 +41,15 @@ impl Mouse {
     pub fn switched_off(self) -> Self
         ensures { λ r. ⌜ r ≡ switched-off self ⌝ }
     {
-        let held = Motions::at_rest();
-        Mouse { held, ..self }
+        self.without_motion()
+    }
+
+    // Nothing is held any more.
+    pub(crate) fn without_motion(mut self) -> Self
+        ensures { λ r. ⌜ r ≡ without-motion self ⌝ }
+    {
+        self.held = Motions::at_rest();
+        self
     }
 
     fn silent(self) -> Commanded
@@ -55,35 +62,31 @@ impl Mouse {
     }
 
     // A mode command: nothing held, and the coordinates 0.
-    fn started_anew(self) -> Self
+    fn started_anew(mut self) -> Self
         ensures { λ r. ⌜ r ≡ started-anew self ⌝ }
     {
-        let still = self.switched_off();
         let place = Point { x: 0, y: 0 };
-        Mouse { place, ..still }
+        self.place = place;
+        self.without_motion()
     }
 
-    fn without_latches(self) -> Self
+    fn without_latches(mut self) -> Self
         ensures { λ r. ⌜ r ≡ with-latches no-latches self ⌝ }
     {
-        let latches = Latches {
-            rightdown: false,
-            rightup: false,
-            leftdown: false,
-            leftup: false,
-        };
-        Mouse { latches, ..self }
+        self.latches = Latches::none();
+        self
     }
 
     // 0x0E, held to the maximum; its first parameter is a filler.
-    fn loaded(self, maximum: Point, params: [u8; 6]) -> Self
+    fn loaded(mut self, maximum: Point, params: [u8; 6]) -> Self
         ensures { λ r. ⌜ r ≡ loaded maximum params self ⌝ }
     {
         let place = Point {
-            x: motion::smaller(maximum.x, word(params[1], params[2])),
-            y: motion::smaller(maximum.y, word(params[3], params[4])),
+            x: motion::smaller(maximum.x, protocol::word(params[1], params[2])),
+            y: motion::smaller(maximum.y, protocol::word(params[3], params[4])),
         };
-        Mouse { place, ..self }
+        self.place = place;
+        self
     }
 
     // What 0x0D reports: high bytes first.
@@ -107,13 +110,6 @@ impl Mouse {
             len: 6,
         }
     }
-}
-
-// Two parameter bytes, high byte first.
-fn word(high: u8, low: u8) -> u16
-    ensures { λ r. ⌜ r ≡ 256 * high + low ⌝ }
-{
-    256 * high as u16 + low as u16
 }
 
 // The most that the coordinates are: 0 outside absolute mode.

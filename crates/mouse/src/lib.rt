@@ -1,6 +1,6 @@
 // The mouse: coordinates of absolute mode, motion held back, button levels, and the latches that 0x0D reports.
 ghost use mathlib.Core.Path.{_≡_};
-ghost use Rattle.mouse.specs.Mouse.{at-power-up, held-limit, live};
+ghost use Rattle.mouse.specs.Mouse.{at-power-up, live, no-latches};
 use motion::Motions;
 use output::Short;
 use protocol::Point;
@@ -11,7 +11,7 @@ mod command;
 mod moving;
 mod send;
 
-// Which buttons went down or up since the last 0x0D.
+// Which buttons went down or up, live in absolute mode, since the last 0x0D.
 pub struct Latches {
     pub rightdown: bool,
     pub rightup: bool,
@@ -66,12 +66,6 @@ impl Mouse {
     // The most motion that is held along an axis, either way, while paused.
     pub const HELD_LIMIT: u16 = 2032;
 
-    pub fn held_limit() -> u16
-        ensures { λ r. ⌜ r ≡ held-limit ⌝ }
-    {
-        Mouse::HELD_LIMIT
-    }
-
     pub fn power_up() -> Self
         ensures { λ r. ⌜ r ≡ at-power-up ⌝ }
     {
@@ -80,12 +74,20 @@ impl Mouse {
             held: Motions::at_rest(),
             left: false,
             right: false,
-            latches: Latches {
-                rightdown: false,
-                rightup: false,
-                leftdown: false,
-                leftup: false,
-            },
+            latches: Latches::none(),
+        }
+    }
+}
+
+impl Latches {
+    pub(crate) fn none() -> Self
+        ensures { λ r. ⌜ r ≡ no-latches ⌝ }
+    {
+        Latches {
+            rightdown: false,
+            rightup: false,
+            leftdown: false,
+            leftup: false,
         }
     }
 }

@@ -1,14 +1,12 @@
 // Motion in the three modes of the mouse, and what of it is due at a resume.
 ghost use mathlib.Core.Path.{_≡_};
-ghost use mathlib.Core.Bool.{cond};
-ghost use Prim.Native.Nat.{_+_, _≤_};
-ghost use lib.IntN.{natAbs};
+ghost use Prim.Native.Nat.{_≤_};
 ghost use Rattle.motion.specs.Motion.{size};
 ghost use Rattle.protocol.specs.declared.MouseMode.the-variants.{Relative};
 ghost use Rattle.mouse.specs.Mouse.{WithinLimit, held-limit};
 ghost use Rattle.mouse.specs.Reports.{quiet, send-all};
-ghost use Rattle.mouse.specs.Moves.{turns-y, incoming, gathered, either-reaches, quotients, remainders, keyed, steered, motion-due, released, applied, moves, overflows};
-ghost use Rattle.mouse.specs.Sending.{MovedAs};
+ghost use Rattle.mouse.specs.Moves.{negates-dy, incoming, added-to-held, either-reaches, quotients, remainders, send-deltas, coordinates-moved, motion-due, resumed, live-motion, moves, overflows};
+ghost use Rattle.mouse.specs.Handing.{moved-of};
 use crate::Mouse;
 use crate::Moved;
 use crate::Sending;
@@ -22,7 +20,6 @@ use protocol::Settings;
 impl Mouse {
     // Would held motion along an axis leave its limit?
     pub fn overflows(self, settings: Settings, dx: i16, dy: i16) -> bool
-        requires { ⌜ (natAbs dx ≤ 64) × (natAbs dy ≤ 64) ⌝ }
         requires { ⌜ WithinLimit self ⌝ }
         ensures { λ r. ⌜ r ≡ overflows settings dx dy self ⌝ }
     {
@@ -33,33 +30,30 @@ impl Mouse {
         if protocol::is_absolute(mode) {
             return false;
         }
-        let held = gathered(settings, dx, dy, self.held);
+        let held = added_to_held(settings, dx, dy, self.held);
         let x = held.x;
-        if Mouse::HELD_LIMIT < x.size() {
+        if (Mouse::HELD_LIMIT as u32) < x.size() {
             return true;
         }
         let y = held.y;
-        Mouse::HELD_LIMIT < y.size()
+        (Mouse::HELD_LIMIT as u32) < y.size()
     }
 
-    pub fn moves(self, paused: bool, settings: Settings, dx: i16, dy: i16) -> Moved
-        requires { ⌜ (natAbs dx ≤ 64) × (natAbs dy ≤ 64) ⌝ }
+    pub fn moves(mut self, paused: bool, settings: Settings, dx: i16, dy: i16) -> Moved
         requires { ⌜ WithinLimit self ⌝ }
-        ensures { λ r. ⌜ MovedAs (moves paused settings dx dy self) r ⌝ }
+        ensures { λ r. ⌜ r ≡ moved-of (moves paused settings dx dy self) ⌝ }
     {
         if !crate::live(settings) {
             return self.stays();
         }
-        let held = gathered(settings, dx, dy, self.held);
-        let next = Mouse { held, ..self };
+        self.held = added_to_held(settings, dx, dy, self.held);
         let mode = settings.mouse;
-        next.applied(mode, paused, settings)
+        self.live_motion(mode, paused, settings)
     }
 
     // Held motion that is due at a resume.
     pub fn resumes(self, paused: bool, settings: Settings) -> Moved
-        requires { ⌜ WithinLimit self ⌝ }
-        ensures { λ r. ⌜ MovedAs (cond paused (released settings self) (quiet self)) r ⌝ }
+        ensures { λ r. ⌜ r ≡ moved-of (resumed paused settings self) ⌝ }
     {
         if !paused {
             return self.stays();
@@ -68,13 +62,12 @@ impl Mouse {
             return self.stays();
         }
         let mode = settings.mouse;
-        self.due(mode, settings.threshold)
+        self.motion_due(mode, settings.threshold)
     }
 
     // Motion, once it is held, in each mode.
-    fn applied(self, mode: MouseMode, paused: bool, settings: Settings) -> Moved
-        requires { ⌜ (size (self .held .x) ≤ 65000) × (size (self .held .y) ≤ 65000) ⌝ }
-        ensures { λ r. ⌜ MovedAs (applied mode paused settings self) r ⌝ }
+    fn live_motion(self, mode: MouseMode, paused: bool, settings: Settings) -> Moved
+        ensures { λ r. ⌜ r ≡ moved-of (live-motion mode paused settings self) ⌝ }
     {
         match mode {
             MouseMode::Relative => {
@@ -83,31 +76,31 @@ impl Mouse {
                 }
                 self.reached(settings.threshold)
             }
-            MouseMode::Absolute { maximum } => self.steered(maximum, settings.scale).stays(),
+            MouseMode::Absolute { maximum } => self.coordinates_moved(maximum, settings.scale)
+                .stays(),
             MouseMode::Keycode { delta } => {
                 if paused {
                     return self.stays();
                 }
-                self.keyed(delta)
+                self.send_deltas(delta)
             }
         }
     }
 
     // Held motion that is due, in each mode.
-    fn due(self, mode: MouseMode, threshold: Axes) -> Moved
-        requires { ⌜ (size (self .held .x) ≤ 65000) × (size (self .held .y) ≤ 65000) ⌝ }
-        ensures { λ r. ⌜ MovedAs (motion-due mode threshold self) r ⌝ }
+    fn motion_due(self, mode: MouseMode, threshold: Axes) -> Moved
+        ensures { λ r. ⌜ r ≡ moved-of (motion-due mode threshold self) ⌝ }
     {
         match mode {
             MouseMode::Relative => self.reached(threshold),
             MouseMode::Absolute { maximum: _ } => self.stays(),
-            MouseMode::Keycode { delta } => self.keyed(delta),
+            MouseMode::Keycode { delta } => self.send_deltas(delta),
         }
     }
 
     // Nothing is sent, and nothing changes.
     fn stays(self) -> Moved
-        ensures { λ r. ⌜ MovedAs (quiet self) r ⌝ }
+        ensures { λ r. ⌜ r ≡ moved-of (quiet self) ⌝ }
     {
         Moved {
             sending: Sending::none(),
@@ -117,8 +110,7 @@ impl Mouse {
 
     // Where either axis reaches its threshold, all is sent.
     fn reached(self, threshold: Axes) -> Moved
-        requires { ⌜ (size (self .held .x) ≤ 65000) × (size (self .held .y) ≤ 65000) ⌝ }
-        ensures { λ r. ⌜ MovedAs (motion-due Relative threshold self) r ⌝ }
+        ensures { λ r. ⌜ r ≡ moved-of (motion-due Relative threshold self) ⌝ }
     {
         if either_reaches(threshold, self.held) {
             return self.send_all(0);
@@ -128,8 +120,7 @@ impl Mouse {
 
     // All held motion, in `least` packets at least.
     pub(crate) fn send_all(self, least: u16) -> Moved
-        requires { ⌜ (size (self .held .x) ≤ 65000) × (size (self .held .y) ≤ 65000) ⌝ }
-        ensures { λ r. ⌜ MovedAs (send-all least self) r ⌝ }
+        ensures { λ r. ⌜ r ≡ moved-of (send-all least self) ⌝ }
     {
         let held = self.held;
         let x = held.x;
@@ -142,16 +133,13 @@ impl Mouse {
             held,
             arrows: Motions::at_rest(),
         };
-        let mouse = Mouse {
-            held: Motions::at_rest(),
-            ..self
-        };
+        let mouse = self.without_motion();
         Moved { sending, mouse }
     }
 
     // Whole deltas become arrow keys, and the remainder stays held.
-    fn keyed(self, delta: Axes) -> Moved
-        ensures { λ r. ⌜ MovedAs (keyed delta self) r ⌝ }
+    fn send_deltas(mut self, delta: Axes) -> Moved
+        ensures { λ r. ⌜ r ≡ moved-of (send-deltas delta self) ⌝ }
     {
         let sending = Sending {
             packets: 0,
@@ -160,37 +148,34 @@ impl Mouse {
             held: Motions::at_rest(),
             arrows: quotients(delta, self.held),
         };
-        let mouse = Mouse {
-            held: remainders(delta, self.held),
-            ..self
-        };
-        Moved { sending, mouse }
+        self.held = remainders(delta, self.held);
+        Moved {
+            sending,
+            mouse: self,
+        }
     }
 
     // Held motion moves the coordinates, by its scale; the remainder stays held.
-    fn steered(self, maximum: Point, scale: Axes) -> Mouse
-        ensures { λ r. ⌜ r ≡ steered maximum scale self ⌝ }
+    fn coordinates_moved(mut self, maximum: Point, scale: Axes) -> Mouse
+        ensures { λ r. ⌜ r ≡ coordinates-moved maximum scale self ⌝ }
     {
         let steps = quotients(scale, self.held);
         let x = steps.x;
         let y = steps.y;
         let place = Point {
-            x: x.moves(maximum.x, self.place.x),
-            y: y.moves(maximum.y, self.place.y),
+            x: x.coordinate_after(maximum.x, self.place.x),
+            y: y.coordinate_after(maximum.y, self.place.y),
         };
-        Mouse {
-            place,
-            held: remainders(scale, self.held),
-            ..self
-        }
+        self.place = place;
+        self.held = remainders(scale, self.held);
+        self
     }
 }
 
 // Held motion with what an event brings.
-fn gathered(settings: Settings, dx: i16, dy: i16, held: Motions) -> Motions
-    requires { ⌜ (natAbs dx ≤ 64) × (natAbs dy ≤ 64) ⌝ }
+fn added_to_held(settings: Settings, dx: i16, dy: i16, held: Motions) -> Motions
     requires { ⌜ (size (held .x) ≤ held-limit) × (size (held .y) ≤ held-limit) ⌝ }
-    ensures { λ r. ⌜ r ≡ gathered settings dx dy held ⌝ }
+    ensures { λ r. ⌜ r ≡ added-to-held settings dx dy held ⌝ }
 {
     let d = incoming(settings, dx, dy);
     let x = held.x;
@@ -208,15 +193,15 @@ fn incoming(settings: Settings, dx: i16, dy: i16) -> Motions
     let x = Motion::of_signed(dx);
     let y = Motion::of_signed(dy);
     let mode = settings.mouse;
-    if turns_y(mode, settings.bottom) {
+    if negates_dy(mode, settings.bottom) {
         let turned = y.opposite();
         return Motions { x, y: turned };
     }
     Motions { x, y }
 }
 
-fn turns_y(mode: MouseMode, bottom: bool) -> bool
-    ensures { λ r. ⌜ r ≡ turns-y mode bottom ⌝ }
+fn negates_dy(mode: MouseMode, bottom: bool) -> bool
+    ensures { λ r. ⌜ r ≡ negates-dy mode bottom ⌝ }
 {
     match mode {
         MouseMode::Relative => bottom,
@@ -226,7 +211,6 @@ fn turns_y(mode: MouseMode, bottom: bool) -> bool
 }
 
 fn either_reaches(threshold: Axes, d: Motions) -> bool
-    requires { ⌜ (size (d .x) ≤ 65000) × (size (d .y) ≤ 65000) ⌝ }
     ensures { λ r. ⌜ r ≡ either-reaches threshold d ⌝ }
 {
     let x = d.x;

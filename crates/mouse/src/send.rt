@@ -3,15 +3,14 @@ ghost use mathlib.Core.Path.{_≡_};
 ghost use Prim.Native.Nat.{_+_, _*_, _≤_};
 ghost use mathlib.Core.List.{_++_};
 ghost use lib.ListN.{length};
-ghost use Rattle.output.specs.Packets.{bytes, bit, pairs};
+ghost use Rattle.output.specs.Packets.{bytes, pairs};
 ghost use Rattle.output.specs.Writing.{Wrote};
 ghost use Rattle.motion.specs.Motion.{size};
-ghost use Rattle.mouse.specs.Reports.{split};
-ghost use Rattle.mouse.specs.Moves.{arrows};
-ghost use Rattle.mouse.specs.Sending.{packets-sent, nothing-sent};
+ghost use Rattle.mouse.specs.Sending.{buttons, split, arrows, packets-sent, nothing-sent};
 use crate::Sending;
 use motion::Motion;
 use motion::Motions;
+use output::ScanCode;
 
 impl Sending {
     pub fn none() -> Self
@@ -45,7 +44,7 @@ impl Sending {
 
 // 0xF8, and 2 and 1 for the left and the right button that is down.
 fn header(left: bool, right: bool) -> u8
-    ensures { λ r. ⌜ r ≡ 0xF8 + (2 * bit left + bit right) ⌝ }
+    ensures { λ r. ⌜ r ≡ 0xF8 + buttons left right ⌝ }
 {
     0xF8 + (2 * left as u8 + right as u8)
 }
@@ -53,7 +52,7 @@ fn header(left: bool, right: bool) -> u8
 // Each packet takes as much as it can of what the packets before it left.
 fn write_packets(n: u16, left: bool, right: bool, held: Motions, out: &mut [u8]) -> usize
     requires { ⌜ 3 * n ≤ length (now out) ⌝ }
-    ensures { λ r. ⌜ Wrote (bytes (split n (2 * bit left + bit right) held)) r (now (out .entry)) (now (out .exit)) ⌝ }
+    ensures { λ r. ⌜ Wrote (bytes (split n (buttons left right) held)) r (now (out .entry)) (now (out .exit)) ⌝ }
 {
     let first = header(left, right);
     let mut x = held.x;
@@ -62,8 +61,8 @@ fn write_packets(n: u16, left: bool, right: bool, held: Motions, out: &mut [u8])
     let mut at = 0;
     while 0 < rest {
         let k = output::put3(first, x.part_byte(), y.part_byte(), &mut out[at..]);
-        x = x.left_over();
-        y = y.left_over();
+        x = x.after_part();
+        y = y.after_part();
         at += k;
         rest -= 1;
     }
@@ -75,8 +74,8 @@ fn write_arrows(d: Motions, out: &mut [u8]) -> usize
     requires { ⌜ 2 * (size (d .x) + size (d .y)) ≤ length (now out) ⌝ }
     ensures { λ r. ⌜ Wrote (bytes (arrows d)) r (now (out .entry)) (now (out .exit)) ⌝ }
 {
-    let n = write_axis(d.x, 0x4D, 0x4B, out);
-    n + write_axis(d.y, 0x50, 0x48, &mut out[n..])
+    let n = write_axis(d.x, ScanCode::ARROW_RIGHT, ScanCode::ARROW_LEFT, out);
+    n + write_axis(d.y, ScanCode::ARROW_DOWN, ScanCode::ARROW_UP, &mut out[n..])
 }
 
 // One side of the axis is 0.

@@ -2,3 +2,4 @@ pub mod Cases
 pub mod Packets
 pub mod Writing
 pub mod Runs
+pub mod Computed

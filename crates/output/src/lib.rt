@@ -8,7 +8,29 @@ ghost use Rattle.output.specs.Packets.{bytes, pairs};
 ghost use Rattle.output.specs.Short.{short-room, short-of, short-bytes, added};
 ghost use Rattle.output.specs.Writing.{Wrote};
 
-// Up to eight bytes that go out together: the first `len` of `bytes`; the others are 0.
+// Make codes by name, as specs/ScanCodes.antt has them: the first and the last key of the keyboard, the arrows that stand for motion, and
+// the mouse's buttons and the sticks' triggers as keys.
+pub struct ScanCode;
+
+impl ScanCode {
+    pub const FIRST_KEY: u8 = 1;
+
+    pub const LAST_KEY: u8 = 0x72;
+
+    pub const ARROW_RIGHT: u8 = 0x4D;
+
+    pub const ARROW_LEFT: u8 = 0x4B;
+
+    pub const ARROW_UP: u8 = 0x48;
+
+    pub const ARROW_DOWN: u8 = 0x50;
+
+    pub const KEY_LEFT: u8 = 0x74;
+
+    pub const KEY_RIGHT: u8 = 0x75;
+}
+
+// Up to eight bytes that go out together: the first `len` of `bytes`. What stands past them is not sent.
 pub struct Short {
     pub bytes: [u8; 8],
     pub len: usize,

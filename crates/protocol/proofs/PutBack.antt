@@ -10,7 +10,7 @@ use lib.ListN.{length}
 use borrow.Author.Tests.{eqb-true}
 use Rattle.output.specs.Packets.{bytes-of}
 use Rattle.protocol.specs.declared.StickMode.{StickMode}
-use Rattle.protocol.specs.declared.StickMode.the-variants.{Event, Interrogation, Monitoring, Fire, Cursor}
+use Rattle.protocol.specs.declared.StickMode.the-variants.{Event, Interrogation, Monitoring, Fire, StickKeycode}
 use Rattle.protocol.specs.declared.MouseMode.{MouseMode}
 use Rattle.protocol.specs.declared.MouseMode.the-variants.{Relative, Absolute, Keycode}
 use Rattle.protocol.specs.declared.Role.{Role}
@@ -23,7 +23,7 @@ use Rattle.protocol.specs.declared.Meaning.the-variants.{Nothing, Memory
 use Rattle.protocol.specs.Codes.{entry, table, find, line, parameters-of, meaning-of}
 use Rattle.protocol.specs.Reading.{zeros, no-command, Between, whole, begin, feed, command-after}
 use Rattle.protocol.specs.Settings.{most-action, monitors}
-use Rattle.protocol.specs.Commands.{executed, leave-monitoring, with-action, with-threshold, with-scale, with-origin, with-mouse, without-mouse, with-stick, without-sticks, sets, settings-then, settings-after}
+use Rattle.protocol.specs.Commands.{executed, leave-monitoring, settings-of, with-action, with-threshold, with-scale, with-origin, with-mouse, without-mouse, with-stick, without-sticks, with-role, sets, settings-then, settings-after}
 use Rattle.protocol.specs.Replies.{code-of, mouse-reply, stick-reply, reply, kept-bytes, in-order}
 use Rattle.protocol.proofs.Reading.{every, find-passes}
 use Rattle.protocol.proofs.Core.{Core, eat, eats, eats-append}
@@ -31,36 +31,12 @@ use Rattle.protocol.proofs.Segments.{at-rest, eat-between, restored, se
 
 -- outside the monitoring modes a command of the mouse leaves the joystick mode
 stays : (m : StickMode) → monitors m ≡ false → leave-monitoring m ≡ m
-stays Event h = refl
-stays Interrogation h = refl
-stays (Monitoring rate) h = absurd (true≢false h)
-stays Fire h = absurd (true≢false h)
-stays (Cursor x y) h = refl
+stays m h = rw h
 
 -- the settings τ with other values, equal to its own, for what goes by cases
 same : (τ : Settings) {mo so : Bool} {st : StickMode} {r : Role} → mo ≡ τ .mouseon → so ≡ τ .stickson → st ≡ τ .stick → r ≡ τ .port0 →
-    _≡_ {A = Settings} (record {
-      mouse = τ .mouse;
-      action = τ .action;
-      threshold = τ .threshold;
-      scale = τ .scale;
-      bottom = τ .bottom;
-      mouseon = mo;
-      stick = st;
-      stickson = so;
-      port0 = r;
-    }) τ
-same τ p q s r = λ i. record {
-  mouse = τ .mouse;
-  action = τ .action;
-  threshold = τ .threshold;
-  scale = τ .scale;
-  bottom = τ .bottom;
-  mouseon = p i;
-  stick = s i;
-  stickson = q i;
-  port0 = r i;
-}
+    settings-of τ.mouse τ.action τ.threshold τ.scale τ.bottom mo st so r ≡ τ
+same τ p q s r = λ i. settings-of τ.mouse τ.action τ.threshold τ.scale τ.bottom (p i) (s i) (q i) (r i)
 
 -- what the replies of the mouse put back, and those of the sticks
 abbrev mouse-part : Settings → Settings → Settings
@@ -79,9 +55,9 @@ module _ (τ σ : Settings) (range : τ .action ≤ most-action) where
 
 -- in the order for its role, they make any settings τ
 whole-mouse : (mo so : Bool) (τ σ : Settings) → mo ≡ τ .mouseon → so ≡ τ .stickson → leave-monitoring (τ .stick) ≡ τ .stick → ForMouse ≡ τ .port0 →
-    let a = with-stick (τ .stick) σ in
-    let b = cond so a (without-sticks a) in
-    let c = with-origin (τ .bottom) (with-scale (τ .scale) (with-threshold (τ .threshold) (with-mouse (τ .mouse) (with-action (τ .action) b)))) in
+    let a = with-role ForJoystick (with-stick (τ .stick) σ) in
+    let b = cond so a (with-role ForJoystick (without-sticks a)) in
+    let c = with-role ForMouse (with-origin (τ .bottom) (with-scale (τ .scale) (with-threshold (τ .threshold) (with-mouse (τ .mouse) (with-action (τ .action) b))))) in
     cond mo c (without-mouse c) ≡ τ
 whole-mouse true true τ σ m s l r = same τ m s l r
 whole-mouse true false τ σ m s l r = same τ m s (ap leave-monitoring l ∙ l) r
@@ -89,9 +65,9 @@ whole-mouse false true τ σ m s l r = same τ m s l r
 whole-mouse false false τ σ m s l r = same τ m s (ap leave-monitoring l ∙ l) r
 
 whole-joystick : (mo so : Bool) (τ σ : Settings) → mo ≡ τ .mouseon → so ≡ τ .stickson → leave-monitoring (τ .stick) ≡ τ .stick → ForJoystick ≡ τ .port0 →
-    let c = with-origin (τ .bottom) (with-scale (τ .scale) (with-threshold (τ .threshold) (with-mouse (τ .mouse) (with-action (τ .action) σ)))) in
-    let d = with-stick (τ .stick) (cond mo c (without-mouse c)) in
-    cond so d (without-sticks d) ≡ τ
+    let c = with-role ForMouse (with-origin (τ .bottom) (with-scale (τ .scale) (with-threshold (τ .threshold) (with-mouse (τ .mouse) (with-action (τ .action) σ))))) in
+    let d = with-role ForJoystick (with-stick (τ .stick) (cond mo c (without-mouse c))) in
+    cond so d (with-role ForJoystick (without-sticks d)) ≡ τ
 whole-joystick true true τ σ m s l r = same τ m s refl r
 whole-joystick true false τ σ m s l r = same τ m s l r
 whole-joystick false true τ σ m s l r = same τ m s refl r
@@ -190,7 +166,7 @@ stick-reply-length Event = refl
 stick-reply-length Interrogation = refl
 stick-reply-length (Monitoring rate) = refl
 stick-reply-length Fire = refl
-stick-reply-length (Cursor x y) = refl
+stick-reply-length (StickKeycode x y) = refl
 
 -- a reply is 8 bytes long
 pub reply-length : (q : Inquiry) (σ : Settings) → length (bytes-of (reply q σ)) ≡ 8

@@ -10,7 +10,8 @@ use Rattle.output.specs.Packets.{status, bytes-of}
 use Rattle.protocol.specs.declared.MouseMode.{MouseMode}
 use Rattle.protocol.specs.declared.MouseMode.the-variants.{Relative, Absolute, Keycode}
 use Rattle.protocol.specs.declared.StickMode.{StickMode}
-use Rattle.protocol.specs.declared.StickMode.the-variants.{Event, Interrogation, Monitoring, Fire, Cursor}
+use Rattle.protocol.specs.declared.StickMode.the-variants.{Event, Interrogation, Monitoring, Fire, StickKeycode}
+use Rattle.protocol.specs.declared.Role.the-variants.{ForMouse, ForJoystick}
 use Rattle.protocol.specs.declared.Settings.{Settings}
 use Rattle.protocol.specs.declared.Command.{Command}
 use Rattle.protocol.specs.declared.Inquiry.{Inquiry}
@@ -18,7 +19,7 @@ use Rattle.protocol.specs.declared.Inquiry.the-variants.{AskAction, AskM
 use Rattle.protocol.specs.Codes.{table, find, line}
 use Rattle.protocol.specs.Reading.{no-command, Between, begin, take-parameter, take-data, feed, command-after}
 use Rattle.protocol.specs.Settings.{most-action}
-use Rattle.protocol.specs.Commands.{mouse-executed, stick-executed, executed, with-action, with-threshold, with-scale, with-origin, with-mouse, without-mouse, with-stick, without-sticks, mouse-sets, stick-sets, other-sets, sets, settings-then, settings-after}
+use Rattle.protocol.specs.Commands.{mouse-executed, stick-executed, executed, with-action, with-threshold, with-scale, with-origin, with-mouse, without-mouse, with-stick, without-sticks, with-role, mouse-sets, stick-sets, other-sets, sets, settings-then, settings-after}
 use Rattle.protocol.specs.Replies.{mouse-reply, stick-reply, reply, kept-bytes}
 use Rattle.protocol.proofs.Core.{Core, eat, eats}
 
@@ -36,14 +37,14 @@ eat-between c b h = ap (λ f. record { settings = settings-after (c .settings) f
 
 -- what the kept bytes of τ do to settings σ
 unfoldable pub restored : Inquiry → Settings → Settings → Settings
-restored AskAction τ σ = with-action (τ .action) σ
-restored AskMouse τ σ = with-mouse (τ .mouse) σ
-restored AskThreshold τ σ = with-threshold (τ .threshold) σ
-restored AskScale τ σ = with-scale (τ .scale) σ
-restored AskOrigin τ σ = with-origin (τ .bottom) σ
+restored AskAction τ σ = with-role ForMouse (with-action (τ .action) σ)
+restored AskMouse τ σ = with-role ForMouse (with-mouse (τ .mouse) σ)
+restored AskThreshold τ σ = with-role ForMouse (with-threshold (τ .threshold) σ)
+restored AskScale τ σ = with-role ForMouse (with-scale (τ .scale) σ)
+restored AskOrigin τ σ = with-role ForMouse (with-origin (τ .bottom) σ)
 restored AskMouseOff τ σ = cond (τ .mouseon) σ (without-mouse σ)
-restored AskStick τ σ = with-stick (τ .stick) σ
-restored AskSticksOff τ σ = cond (τ .stickson) σ (without-sticks σ)
+restored AskStick τ σ = with-role ForJoystick (with-stick (τ .stick) σ)
+restored AskSticksOff τ σ = cond (τ .stickson) σ (with-role ForJoystick (without-sticks σ))
 
 -- the rules that kept bytes go through
 rules : Unit {0}
@@ -64,7 +65,7 @@ unfolding rules reply restored
 scale-segment τ σ = refl
 
 origin-segment : (b : Bool) (σ : Settings) →
-    eats (at-rest σ) (drop 1 (bytes-of (status (cond b 0x0F 0x10) 0 0 0 0 0 0))) ≡ at-rest (with-origin b σ)
+    eats (at-rest σ) (drop 1 (bytes-of (status (cond b 0x0F 0x10) 0 0 0 0 0 0))) ≡ at-rest (with-role ForMouse (with-origin b σ))
 unfolding rules
 origin-segment true σ = refl
 origin-segment false σ = refl
@@ -76,7 +77,7 @@ mouse-off-segment true σ = refl
 mouse-off-segment false σ = refl
 
 sticks-off-segment : (b : Bool) (σ : Settings) →
-    eats (at-rest σ) (drop 1 (bytes-of (status (cond b 0x00 0x1A) 0 0 0 0 0 0))) ≡ at-rest (cond b σ (without-sticks σ))
+    eats (at-rest σ) (drop 1 (bytes-of (status (cond b 0x00 0x1A) 0 0 0 0 0 0))) ≡ at-rest (cond b σ (with-role ForJoystick (without-sticks σ)))
 unfolding rules
 sticks-off-segment true σ = refl
 sticks-off-segment false σ = refl
@@ -85,19 +86,19 @@ sticks-off-segment false σ = refl
 halves : (x : ℕ) → 256 * (x / 256) + x % 256 ≡ x
 halves x = omega arith
 
-mouse-segment : (m : MouseMode) (σ : Settings) → eats (at-rest σ) (drop 1 (bytes-of (mouse-reply m))) ≡ at-rest (with-mouse m σ)
+mouse-segment : (m : MouseMode) (σ : Settings) → eats (at-rest σ) (drop 1 (bytes-of (mouse-reply m))) ≡ at-rest (with-role ForMouse (with-mouse m σ))
 unfolding rules
 mouse-segment Relative σ = refl
-mouse-segment (Absolute p) σ = ap₂ (λ (a b : ℕ). at-rest (with-mouse (Absolute (record { x = a; y = b })) σ)) (halves (p .x)) (halves (p .y))
+mouse-segment (Absolute p) σ = ap₂ (λ (a b : ℕ). at-rest (with-role ForMouse (with-mouse (Absolute (record { x = a; y = b })) σ))) (halves (p .x)) (halves (p .y))
 mouse-segment (Keycode d) σ = refl
 
-stick-segment : (m : StickMode) (σ : Settings) → eats (at-rest σ) (drop 1 (bytes-of (stick-reply m))) ≡ at-rest (with-stick m σ)
+stick-segment : (m : StickMode) (σ : Settings) → eats (at-rest σ) (drop 1 (bytes-of (stick-reply m))) ≡ at-rest (with-role ForJoystick (with-stick m σ))
 unfolding rules
 stick-segment Event σ = refl
 stick-segment Interrogation σ = refl
 stick-segment (Monitoring rate) σ = refl
 stick-segment Fire σ = refl
-stick-segment (Cursor x y) σ = refl
+stick-segment (StickKeycode x y) σ = refl
 
 -- all eight in one
 pub segment : (q : Inquiry) (τ σ : Settings) → τ .action ≤ most-action → eats (at-rest σ) (kept-bytes q τ) ≡ at-rest (restored q τ σ)

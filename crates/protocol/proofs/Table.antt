@@ -4,37 +4,16 @@
 use Prim.Native.Nat.{ℕ, zero, suc, _+_, _≤_, _<_}
 use native.Mathlib.Omega.{arith}
 use native.Mathlib.Nat.{add-zero, zero-add, add-suc, suc-add}
-use mathlib.Core.Path.{_≡_, refl, sym, ap, _∙_, subst}
-use mathlib.Core.Bool.{Bool, true, false, cond, _&&_, _||_}
+use mathlib.Core.Path.{_≡_, refl, sym, ap, _∙_}
+use mathlib.Core.Bool.{Bool, true, false, cond, _||_}
 use mathlib.Core.List.{List, [], _∷_}
 use lib.Dec.{eqb}
 use lib.ListN.{getD}
-use borrow.Author.Tests.{eqb-true, eqb-false, ne-eqb}
-use Rattle.output.proofs.Cases.{and-true}
+use borrow.Author.Tests.{eqb-true, ne-eqb}
+use Rattle.output.proofs.Computed.{first-or-later, passes, passes-at}
 use Rattle.protocol.specs.declared.Meaning.{Meaning}
 use Rattle.protocol.specs.declared.Meaning.the-variants.{Nothing, Memory, Pause, Reset, OfMouse, OfStick, OfOther, Inquire}
 use Rattle.protocol.specs.Codes.{table, find, line, parameters-of, meaning-of}
-
--- a number from i on is i, or is from i + 1 on
-first-or-later : (P : ℕ → Type 0) (i k : ℕ) → i ≤ k → P i → (suc i ≤ k → P k) → P k
-first-or-later P i k low p later = go (eqb k i) refl
-  where
-    go : (t : Bool) → eqb k i ≡ t → P k
-    go true e = subst P (sym (eqb-true k i e)) p
-    go false e = let other = eqb-false k i e in later (omega arith)
-
--- a test passes at each of n numbers from i on
-unfoldable pub passes : (ℕ → Bool) → ℕ → ℕ → Bool
-passes test i zero = true
-passes test i (suc n) = test i && passes test (suc i) n
-
--- then it passes at any of them
-passes-at : (test : ℕ → Bool) (i n : ℕ) → passes test i n ≡ true → (k : ℕ) → i ≤ k → k < i + n → test k ≡ true
-unfolding passes
-passes-at test i zero h k low high = absurd (omega arith)
-passes-at test i (suc n) h k low high =
-    first-or-later (λ (j : ℕ). test j ≡ true) i k low (and-true (test i) (passes test (suc i) n) h .0)
-    (λ l. passes-at test (suc i) n (and-true (test i) (passes test (suc i) n) h .1) k l (omega arith))
 
 -- the counts of n codes from i on, as the definition has them
 unfoldable pub counts-from : ℕ → ℕ → List ℕ

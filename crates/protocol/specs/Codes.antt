@@ -4,7 +4,7 @@ use mathlib.Core.Bool.{cond}
 use mathlib.Core.List.{List, [], _∷_}
 use lib.Dec.{eqb}
 use Rattle.protocol.specs.declared.MouseCommand.the-variants.{SetAction, SetRelative, SetAbsolute, SetKeycode, SetThreshold, SetScale, ReportPosition, LoadPosition, OriginBottom, OriginTop}
-use Rattle.protocol.specs.declared.StickCommand.the-variants.{SetEvent, SetInterrogation, ReportSticks, SetMonitoring, SetFire, SetCursor, SticksOff}
+use Rattle.protocol.specs.declared.StickCommand.the-variants.{SetEvent, SetInterrogation, ReportSticks, SetMonitoring, SetFire, SetStickKeycode, SticksOff}
 use Rattle.protocol.specs.declared.OtherCommand.the-variants.{Resume, MouseOff, SetClock, ReportClock}
 use Rattle.protocol.specs.declared.Inquiry.the-variants.{AskAction, AskMouse, AskThreshold, AskScale, AskOrigin, AskMouseOff, AskStick, AskSticksOff}
 use Rattle.protocol.specs.declared.Meaning.{Meaning}
@@ -41,7 +41,7 @@ table =
     ∷ entry 0x16 0 (OfStick ReportSticks)
     ∷ entry 0x17 1 (OfStick SetMonitoring)
     ∷ entry 0x18 0 (OfStick SetFire)
-    ∷ entry 0x19 6 (OfStick SetCursor)
+    ∷ entry 0x19 6 (OfStick SetStickKeycode)
     ∷ entry 0x1A 0 (OfStick SticksOff)
     ∷ entry 0x1B 6 (OfOther SetClock)
     ∷ entry 0x1C 0 (OfOther ReportClock)

@@ -7,7 +7,7 @@ use Rattle.output.specs.Packets.{Packet, status, bytes-of}
 use Rattle.protocol.specs.declared.MouseMode.{MouseMode}
 use Rattle.protocol.specs.declared.MouseMode.the-variants.{Relative, Absolute, Keycode}
 use Rattle.protocol.specs.declared.StickMode.{StickMode}
-use Rattle.protocol.specs.declared.StickMode.the-variants.{Event, Interrogation, Monitoring, Fire, Cursor}
+use Rattle.protocol.specs.declared.StickMode.the-variants.{Event, Interrogation, Monitoring, Fire, StickKeycode}
 use Rattle.protocol.specs.declared.Role.{Role}
 use Rattle.protocol.specs.declared.Role.the-variants.{ForMouse, ForJoystick}
 use Rattle.protocol.specs.declared.Settings.{Settings}
@@ -37,7 +37,7 @@ stick-reply Event = status 0x14 0 0 0 0 0 0
 stick-reply Interrogation = status 0x15 0 0 0 0 0 0
 stick-reply (Monitoring rate) = status 0x17 rate 0 0 0 0 0
 stick-reply Fire = status 0x18 0 0 0 0 0 0
-stick-reply (Cursor x y) = status 0x19 (x .breakpoint) (y .breakpoint) (x .before) (y .before) (x .after) (y .after)
+stick-reply (StickKeycode x y) = status 0x19 (x .breakpoint) (y .breakpoint) (x .before) (y .before) (x .after) (y .after)
 
 -- "A reply is 0xF6, then the command that would set it, filled with zeros to 8 bytes."
 unfoldable pub reply : Inquiry → Settings → Packet

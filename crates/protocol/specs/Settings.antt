@@ -7,7 +7,7 @@ use Rattle.protocol.specs.declared.Repeat.{Repeat}
 use Rattle.protocol.specs.declared.MouseMode.{MouseMode}
 use Rattle.protocol.specs.declared.MouseMode.the-variants.{Relative, Absolute, Keycode}
 use Rattle.protocol.specs.declared.StickMode.{StickMode}
-use Rattle.protocol.specs.declared.StickMode.the-variants.{Event, Interrogation, Monitoring, Fire, Cursor}
+use Rattle.protocol.specs.declared.StickMode.the-variants.{Event, Interrogation, Monitoring, Fire, StickKeycode}
 use Rattle.protocol.specs.declared.Role.{Role}
 use Rattle.protocol.specs.declared.Role.the-variants.{ForMouse, ForJoystick}
 use Rattle.protocol.specs.declared.Settings.{Settings}
@@ -40,7 +40,7 @@ IsStickMode Event = Unit {0}
 IsStickMode Interrogation = Unit {0}
 IsStickMode (Monitoring rate) = rate ≤ 255
 IsStickMode Fire = Unit {0}
-IsStickMode (Cursor x y) = IsRepeat x × IsRepeat y
+IsStickMode (StickKeycode x y) = IsRepeat x × IsRepeat y
 
 -- "button action 0 to 4"
 abbrev pub most-action : ℕ
@@ -78,7 +78,7 @@ monitors Event = false
 monitors Interrogation = false
 monitors (Monitoring rate) = true
 monitors Fire = true
-monitors (Cursor x y) = false
+monitors (StickKeycode x y) = false
 
 -- absolute mode, of "0x0D and 0x0E outside absolute mode"; the other two are "relative or keycode mode"
 abbrev pub is-absolute : MouseMode → Bool

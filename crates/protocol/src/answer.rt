@@ -9,21 +9,12 @@ use crate::Settings;
 use crate::StickMode;
 use output::Short;
 
-// The reply whose command has no parameters, and that with one or two.
-fn alone(code: u8) -> Short
-    ensures { λ r. ⌜ r ≡ short-of (bytes-of (status code 0 0 0 0 0 0)) ⌝ }
+// A code and six parameter bytes, zeros where the command has fewer.
+fn status(code: u8, a: u8, b: u8, c: u8, d: u8, e: u8, f: u8) -> Short
+    ensures { λ r. ⌜ r ≡ short-of (bytes-of (status code a b c d e f)) ⌝ }
 {
     Short {
-        bytes: [0xF6, code, 0, 0, 0, 0, 0, 0],
-        len: 8,
-    }
-}
-
-fn with_two(code: u8, a: u8, b: u8) -> Short
-    ensures { λ r. ⌜ r ≡ short-of (bytes-of (status code a b 0 0 0 0)) ⌝ }
-{
-    Short {
-        bytes: [0xF6, code, a, b, 0, 0, 0, 0],
+        bytes: [0xF6, code, a, b, c, d, e, f],
         len: 8,
     }
 }
@@ -32,25 +23,21 @@ fn mouse_reply(mode: MouseMode) -> Short
     ensures { λ r. ⌜ r ≡ short-of (bytes-of (mouse-reply mode)) ⌝ }
 {
     match mode {
-        MouseMode::Relative => alone(0x08),
+        MouseMode::Relative => status(0x08, 0, 0, 0, 0, 0, 0),
         MouseMode::Absolute { maximum } => {
             let x = maximum.x;
             let y = maximum.y;
-            Short {
-                bytes: [
-                    0xF6,
-                    0x09,
-                    (x / 256) as u8,
-                    (x % 256) as u8,
-                    (y / 256) as u8,
-                    (y % 256) as u8,
-                    0,
-                    0,
-                ],
-                len: 8,
-            }
+            status(
+                0x09,
+                (x / 256) as u8,
+                (x % 256) as u8,
+                (y / 256) as u8,
+                (y % 256) as u8,
+                0,
+                0,
+            )
         }
-        MouseMode::Keycode { delta } => with_two(0x0A, delta.x, delta.y),
+        MouseMode::Keycode { delta } => status(0x0A, delta.x, delta.y, 0, 0, 0, 0),
     }
 }
 
@@ -58,13 +45,12 @@ fn stick_reply(mode: StickMode) -> Short
     ensures { λ r. ⌜ r ≡ short-of (bytes-of (stick-reply mode)) ⌝ }
 {
     match mode {
-        StickMode::Event => alone(0x14),
-        StickMode::Interrogation => alone(0x15),
-        StickMode::Monitoring { rate } => with_two(0x17, rate, 0),
-        StickMode::Fire => alone(0x18),
-        StickMode::Cursor { x, y } => Short {
-            bytes: [
-                0xF6,
+        StickMode::Event => status(0x14, 0, 0, 0, 0, 0, 0),
+        StickMode::Interrogation => status(0x15, 0, 0, 0, 0, 0, 0),
+        StickMode::Monitoring { rate } => status(0x17, rate, 0, 0, 0, 0, 0),
+        StickMode::Fire => status(0x18, 0, 0, 0, 0, 0, 0),
+        StickMode::StickKeycode { x, y } => {
+            status(
                 0x19,
                 x.breakpoint,
                 y.breakpoint,
@@ -72,9 +58,8 @@ fn stick_reply(mode: StickMode) -> Short
                 y.before,
                 x.after,
                 y.after,
-            ],
-            len: 8,
-        },
+            )
+        }
     }
 }
 
@@ -85,25 +70,25 @@ impl Settings {
         let mouse = self.mouse;
         let stick = self.stick;
         match q {
-            Inquiry::AskAction => with_two(0x07, self.action, 0),
+            Inquiry::AskAction => status(0x07, self.action, 0, 0, 0, 0, 0),
             Inquiry::AskMouse => mouse_reply(mouse),
-            Inquiry::AskThreshold => with_two(0x0B, self.threshold.x, self.threshold.y),
-            Inquiry::AskScale => with_two(0x0C, self.scale.x, self.scale.y),
+            Inquiry::AskThreshold => status(0x0B, self.threshold.x, self.threshold.y, 0, 0, 0, 0),
+            Inquiry::AskScale => status(0x0C, self.scale.x, self.scale.y, 0, 0, 0, 0),
             Inquiry::AskOrigin => if self.bottom {
-                alone(0x0F)
+                status(0x0F, 0, 0, 0, 0, 0, 0)
             } else {
-                alone(0x10)
+                status(0x10, 0, 0, 0, 0, 0, 0)
             },
             Inquiry::AskMouseOff => if self.mouseon {
-                alone(0x00)
+                status(0x00, 0, 0, 0, 0, 0, 0)
             } else {
-                alone(0x12)
+                status(0x12, 0, 0, 0, 0, 0, 0)
             },
             Inquiry::AskStick => stick_reply(stick),
             Inquiry::AskSticksOff => if self.stickson {
-                alone(0x00)
+                status(0x00, 0, 0, 0, 0, 0, 0)
             } else {
-                alone(0x1A)
+                status(0x1A, 0, 0, 0, 0, 0, 0)
             },
         }
     }

@@ -17,34 +17,34 @@ const PARAMETERS: [u8; 35] = [
     0,
     0,
     0,
-    1,
+    1, // 0x07
     0,
-    4,
-    2,
-    2,
-    2,
+    4, // 0x09
+    2, // 0x0A
+    2, // 0x0B
+    2, // 0x0C
     0,
-    5,
-    0,
-    0,
+    5, // 0x0E
     0,
     0,
     0,
     0,
     0,
     0,
-    1,
-    0,
-    6,
-    0,
-    6,
     0,
     0,
+    1, // 0x17
+    0,
+    6, // 0x19
+    0,
+    6, // 0x1B
     0,
     0,
-    3,
-    2,
-    2,
+    0,
+    0,
+    3, // 0x20
+    2, // 0x21
+    2, // 0x22
 ];
 
 pub fn parameters_of(code: u8) -> u8
@@ -86,12 +86,12 @@ fn stick_meaning(code: u8) -> Meaning
         0x16 => Meaning::OfStick(StickCommand::ReportSticks),
         0x17 => Meaning::OfStick(StickCommand::SetMonitoring),
         0x18 => Meaning::OfStick(StickCommand::SetFire),
-        0x19 => Meaning::OfStick(StickCommand::SetCursor),
+        0x19 => Meaning::OfStick(StickCommand::SetStickKeycode),
         _ => Meaning::OfStick(StickCommand::SticksOff),
     }
 }
 
-// By the rule of adding 0x80: an inquiry has a code for each command that sets what it asks for.
+// The code of each inquiry is that of a command plus 0x80; 0x8D, 0x8E, 0x91, 0x93, 0x97 and 0x98 are no inquiries.
 fn inquiry_meaning(code: u8) -> Meaning
     requires { ⌜ (0x87 ≤ code) × (code ≤ 0x9A) ⌝ }
     ensures { λ r. ⌜ r ≡ meaning-of code ⌝ }

@@ -1,7 +1,7 @@
 // Commands and settings: what the host can set, and a command of which not all bytes have come.
 ghost use mathlib.Core.Path.{_≡_};
 ghost use Rattle.protocol.specs.Reading.{no-command};
-ghost use Rattle.protocol.specs.Settings.{power-up, acts-as, monitors, is-absolute, is-mouse, is-joystick};
+ghost use Rattle.protocol.specs.Settings.{power-up, acts-as, monitors, is-absolute, is-mouse};
 
 mod answer;
 mod code;
@@ -10,6 +10,7 @@ mod set;
 
 pub use code::meaning_of;
 pub use code::parameters_of;
+pub use set::word;
 
 // A byte for each axis of the mouse: thresholds, scales, deltas.
 pub struct Axes {
@@ -37,13 +38,13 @@ pub struct Repeat {
     pub after: u8,
 }
 
-// `Cursor` is the joystick keycode mode: the stick gives arrow keys.
+// In keycode mode the stick gives arrow keys. (The mouse has a keycode mode of its own.)
 pub enum StickMode {
     Event,
     Interrogation,
     Monitoring { rate: u8 },
     Fire,
-    Cursor { x: Repeat, y: Repeat },
+    StickKeycode { x: Repeat, y: Repeat },
 }
 
 // What port 0 is taken for.
@@ -85,7 +86,7 @@ pub enum StickCommand {
     ReportSticks,
     SetMonitoring,
     SetFire,
-    SetCursor,
+    SetStickKeycode,
     SticksOff,
 }
 
@@ -185,7 +186,7 @@ pub fn is_monitoring(mode: StickMode) -> bool
         StickMode::Interrogation => false,
         StickMode::Monitoring { rate: _ } => true,
         StickMode::Fire => true,
-        StickMode::Cursor { x: _, y: _ } => false,
+        StickMode::StickKeycode { x: _, y: _ } => false,
     }
 }
 
@@ -205,14 +206,5 @@ pub fn for_mouse(role: Role) -> bool
     match role {
         Role::ForMouse => true,
         Role::ForJoystick => false,
-    }
-}
-
-pub fn for_joystick(role: Role) -> bool
-    ensures { λ r. ⌜ r ≡ is-joystick role ⌝ }
-{
-    match role {
-        Role::ForMouse => false,
-        Role::ForJoystick => true,
     }
 }

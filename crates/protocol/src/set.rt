@@ -1,7 +1,7 @@
 // Which commands are executed, and what they do to the settings.
 ghost use mathlib.Core.Path.{_≡_};
 ghost use Prim.Native.Nat.{_+_, _*_};
-ghost use Rattle.protocol.specs.Commands.{mouse-executed, stick-executed, executed, answers-interrogation, leave-monitoring, point-at, axes-at, cursor-of, with-action, with-threshold, with-scale, with-origin, with-mouse, with-role, without-mouse, with-stick, without-sticks, mouse-sets, stick-sets, other-sets, sets};
+ghost use Rattle.protocol.specs.Commands.{mouse-executed, stick-executed, executed, answers-interrogation, leave-monitoring, point-at, axes-at, stick-keycode-of, with-action, with-threshold, with-scale, with-origin, with-mouse, with-role, without-mouse, with-stick, without-sticks, mouse-sets, stick-sets, other-sets, sets};
 use crate::Axes;
 use crate::Meaning;
 use crate::MouseCommand;
@@ -28,24 +28,21 @@ fn answers_interrogation(mode: StickMode) -> bool
         StickMode::Interrogation => true,
         StickMode::Monitoring { rate: _ } => false,
         StickMode::Fire => false,
-        StickMode::Cursor { x: _, y: _ } => false,
+        StickMode::StickKeycode { x: _, y: _ } => false,
     }
 }
 
 fn leave_monitoring(mode: StickMode) -> StickMode
     ensures { λ r. ⌜ r ≡ leave-monitoring mode ⌝ }
 {
-    match mode {
-        StickMode::Event => mode,
-        StickMode::Interrogation => mode,
-        StickMode::Monitoring { rate: _ } => StickMode::Event,
-        StickMode::Fire => StickMode::Event,
-        StickMode::Cursor { x: _, y: _ } => mode,
+    if is_monitoring(mode) {
+        return StickMode::Event;
     }
+    mode
 }
 
 // Two parameter bytes, high byte first.
-fn word(high: u8, low: u8) -> u16
+pub fn word(high: u8, low: u8) -> u16
     ensures { λ r. ⌜ r ≡ 256 * high + low ⌝ }
 {
     256 * (high as u16) + (low as u16)
@@ -71,10 +68,10 @@ fn axes(params: [u8; 6]) -> Axes
 }
 
 // The numbers of 0x19 come as RX RY TX TY VX VY.
-fn cursor(params: [u8; 6]) -> StickMode
-    ensures { λ r. ⌜ r ≡ cursor-of params ⌝ }
+fn stick_keycode(params: [u8; 6]) -> StickMode
+    ensures { λ r. ⌜ r ≡ stick-keycode-of params ⌝ }
 {
-    StickMode::Cursor {
+    StickMode::StickKeycode {
         x: Repeat {
             breakpoint: params[0],
             before: params[2],
@@ -141,12 +138,12 @@ impl Settings {
             }
             StickCommand::SetMonitoring => true,
             StickCommand::SetFire => true,
-            StickCommand::SetCursor => true,
+            StickCommand::SetStickKeycode => true,
             StickCommand::SticksOff => true,
         }
     }
 
-    // The settings after an executed command.
+    // The settings after an executed command: 0x07 to 0x10 make port 0 a mouse, 0x14 to 0x1A a joystick.
     pub fn after(self, m: Meaning, params: [u8; 6]) -> Settings
         ensures { λ r. ⌜ r ≡ sets m params self ⌝ }
     {
@@ -155,8 +152,8 @@ impl Settings {
             Meaning::Memory => self,
             Meaning::Pause => self,
             Meaning::Reset => Settings::power_up(),
-            Meaning::OfMouse(k) => self.mouse_sets(k, params),
-            Meaning::OfStick(k) => self.stick_sets(k, params),
+            Meaning::OfMouse(k) => self.mouse_sets(k, params).with_role(Role::ForMouse),
+            Meaning::OfStick(k) => self.stick_sets(k, params).with_role(Role::ForJoystick),
             Meaning::OfOther(k) => self.other_sets(k),
             Meaning::Inquire(_) => self,
         }
@@ -178,8 +175,8 @@ impl Settings {
             }),
             MouseCommand::SetThreshold => self.with_threshold(axes(params)),
             MouseCommand::SetScale => self.with_scale(axes(params)),
-            MouseCommand::ReportPosition => self.with_role(Role::ForMouse),
-            MouseCommand::LoadPosition => self.with_role(Role::ForMouse),
+            MouseCommand::ReportPosition => self,
+            MouseCommand::LoadPosition => self,
             MouseCommand::OriginBottom => self.with_origin(true),
             MouseCommand::OriginTop => self.with_origin(false),
         }
@@ -191,12 +188,12 @@ impl Settings {
         match k {
             StickCommand::SetEvent => self.with_stick(StickMode::Event),
             StickCommand::SetInterrogation => self.with_stick(StickMode::Interrogation),
-            StickCommand::ReportSticks => self.with_role(Role::ForJoystick),
+            StickCommand::ReportSticks => self,
             StickCommand::SetMonitoring => self.with_stick(StickMode::Monitoring {
                 rate: params[0],
             }),
             StickCommand::SetFire => self.with_stick(StickMode::Fire),
-            StickCommand::SetCursor => self.with_stick(cursor(params)),
+            StickCommand::SetStickKeycode => self.with_stick(stick_keycode(params)),
             StickCommand::SticksOff => self.without_sticks(),
         }
     }
@@ -215,41 +212,25 @@ impl Settings {
     fn with_action(self, action: u8) -> Settings
         ensures { λ r. ⌜ r ≡ with-action action self ⌝ }
     {
-        Settings {
-            action,
-            port0: Role::ForMouse,
-            ..self
-        }
+        Settings { action, ..self }
     }
 
     fn with_threshold(self, threshold: Axes) -> Settings
         ensures { λ r. ⌜ r ≡ with-threshold threshold self ⌝ }
     {
-        Settings {
-            threshold,
-            port0: Role::ForMouse,
-            ..self
-        }
+        Settings { threshold, ..self }
     }
 
     fn with_scale(self, scale: Axes) -> Settings
         ensures { λ r. ⌜ r ≡ with-scale scale self ⌝ }
     {
-        Settings {
-            scale,
-            port0: Role::ForMouse,
-            ..self
-        }
+        Settings { scale, ..self }
     }
 
     fn with_origin(self, bottom: bool) -> Settings
         ensures { λ r. ⌜ r ≡ with-origin bottom self ⌝ }
     {
-        Settings {
-            bottom,
-            port0: Role::ForMouse,
-            ..self
-        }
+        Settings { bottom, ..self }
     }
 
     // A mouse mode turns the mouse on and leaves monitoring.
@@ -261,16 +242,6 @@ impl Settings {
             mouse: mode,
             mouseon: true,
             stick: leave_monitoring(stick),
-            port0: Role::ForMouse,
-            ..self
-        }
-    }
-
-    fn with_role(self, role: Role) -> Settings
-        ensures { λ r. ⌜ r ≡ with-role role self ⌝ }
-    {
-        Settings {
-            port0: role,
             ..self
         }
     }
@@ -291,7 +262,6 @@ impl Settings {
         Settings {
             stick: mode,
             stickson: true,
-            port0: Role::ForJoystick,
             ..self
         }
     }
@@ -303,7 +273,15 @@ impl Settings {
         Settings {
             stick: leave_monitoring(stick),
             stickson: false,
-            port0: Role::ForJoystick,
+            ..self
+        }
+    }
+
+    fn with_role(self, role: Role) -> Settings
+        ensures { λ r. ⌜ r ≡ with-role role self ⌝ }
+    {
+        Settings {
+            port0: role,
             ..self
         }
     }

@@ -3,12 +3,15 @@
 use Prim.Native.Nat.{ℕ, suc, _+_, _-_, _^_, _≤_, _<_}
 use native.Mathlib.Omega.{arith}
 use mathlib.Core.Path.{_≡_, refl, sym, ap, _∙_, subst}
-use mathlib.Core.List.{List, [], _∷_, _++_, append-nil}
+use mathlib.Core.Logic.{_⊎_}
+use mathlib.Core.List.{[], List, _∷_, _++_, append-nil}
 use lib.ListN.{length, take, drop, length-append, length-take, length-drop}
-use lib.Seq.{length-take-le, take-add, take-append-seam, take-append-add}
+use lib.Seq.{length-take-le, take-add, take-append-add}
 use Rattle.output.specs.Writing.{over, Wrote}
 use Rattle.output.proofs.Writing.{both, none, kept}
 use Rattle.controller.specs.declared.State.{State}
+use Rattle.controller.specs.declared.Core.{Core}
+use Rattle.controller.specs.Applying.{core-of, joined}
 use Rattle.controller.specs.State.{IsState}
 use Rattle.controller.specs.Step.{step}
 use Rattle.controller.proofs.Answers.{step-fits}
@@ -63,21 +66,14 @@ module _ (s : Session) (lent : ℕ) (t before : List ℕ) where
     pub number-most : number ≤ s .number + from
     number-most = omega (arith, r .number-is, ended-few [] (take from t), length-take-le from t (r .within))
 
-    -- nothing is written while nothing is read
-    pub nothing-yet : from ≡ 0 → at ≡ 0
-    unfolding ended-from printout
-    nothing-yet e = r .wrote .count ∙ ap (λ (k : ℕ). length (printout (s .state) lent (s .number) (ended (take k t)))) e
-
     -- the line that begins at `from` ends at `end`
     module _ {end : ℕ} (e : end ≡ from + length (until line-feed (drop from t))) where
       pub end-within : end ≤ length t
       end-within = omega (arith, line-within t from (r .within))
 
       -- without a line feed, if the text ends there
-      pub no-more : length t ≤ end → from ≡ 0 → ended t ≡ []
-      no-more h z =
-          let all : length (until line-feed (drop from t)) ≡ length (until line-feed t) = ap (λ (k : ℕ). length (until line-feed (drop k t))) z in
-          none-ended [] t (omega arith)
+      pub no-more : length t ≤ end → ended (drop from t) ≡ []
+      no-more h = none-ended [] (drop from t) (omega (arith, length-drop from t))
 
       module _ (h : end < length t) where
         abbrev line : List ℕ
@@ -143,16 +139,17 @@ module _ (s : Session) (lent : ℕ) (t before : List ℕ) where
               same = kept b (omega (arith, r .room, r .same));
             }
 
-    -- the loop is left
-    pub fed : (ended-all : from ≡ 0 → ended t ≡ []) → Feeds s lent t (record { session = record { state = state; number = number }; used = from; count = at }) before after
-    fed on = record {
+    -- the loop is left, and the state put together
+    pub fed : {last : State} → last ≡ state → (ended (drop from t) ≡ []) ⊎ (length before < at + line-room lent) →
+        Feeds s lent t (record { session = record { state = last; number = number }; used = from; count = at }) before after
+    fed e most = record {
       within = r .within;
       whole = r .whole;
       printed = r .wrote;
-      state = r .state-is;
+      state = e ∙ r .state-is;
       number = r .number-is;
-      on = on;
-      keeps = r .keeps;
+      most = most;
+      keeps = subst IsState (sym e) (r .keeps);
     }
 
 -- ---- what a caller needs
@@ -174,3 +171,9 @@ module _ {s : Session} {lent : ℕ} {t : List ℕ} {r : Fed} {before after : Lis
 pub part-used : (from : ℕ) (block : List ℕ) {s : Session} {lent : ℕ} {r : Fed} {before after : List ℕ} → Feeds s lent (take (length block - from) (drop from block)) r before after
     → from ≤ length block → from + r .used ≤ length block
 part-used from block f h = omega (arith, f .within, length-take (length block - from) (drop from block), length-drop from block)
+
+-- the session, whose state was taken apart
+pub again : (s : Session) {k : Core} {lent : ℕ} {t : List ℕ} {r : Fed} {before after : List ℕ} → k ≡ core-of (s .state) →
+    Feeds (record { state = joined k (s .state .queue .bytes) (s .state .queue .len); number = s .number }) lent t r before after → Feeds s lent t r before after
+again s {lent = lent} {t} {r} {before} {after} e f =
+    subst (λ (x : Core). Feeds (record { state = joined x (s .state .queue .bytes) (s .state .queue .len); number = s .number }) lent t r before after) e f

@@ -11,17 +11,17 @@ ghost use Rattle.session.specs.Play.{printed, state-then};
 use controller::State;
 use text::Read;
 
+mod ask;
 mod lines;
 
+pub use ask::tell_queue;
 pub use lines::Fed;
 pub use lines::Session;
 pub use lines::finish;
 pub use lines::keep;
 pub use lines::line_end;
 
-// The answer to an input that is taken, and that to a bad line.
-pub(crate) const TAKEN: u8 = 0;
-
+// The answer to a bad line.
 pub(crate) const BAD_LINE: u8 = 9;
 
 // What a line came to: the state afterwards, and how many bytes were printed.

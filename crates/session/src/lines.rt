@@ -9,8 +9,6 @@ ghost use Rattle.text.specs.Line.{line-feed, longest};
 ghost use Rattle.text.specs.Output.{line-room};
 ghost use Rattle.session.specs.Session.{cut, finished, at-start, Feeds};
 use crate::BAD_LINE;
-use crate::TAKEN;
-use controller::Input;
 use controller::State;
 use text::Read;
 
@@ -56,10 +54,7 @@ impl Session {
     // The lines that end in a text, one after the other, until there is no room for the output line of the next. What stands in
     // `lent` afterwards is left free: what is sent is written there, and nobody reads it again.
     //
-    // It is long because only the function that holds a state can change it where it stands: the step takes the whole state and hands
-    // it back, queue and all. Where an input leaves queue and pause alone, what it changes is put in its place here: ticks, keys, motion
-    // and host bytes, which are most of a session, have an arm each, and the other events one together. What is left goes to the step.
-    // Each arm is proved to do what the step does; without it the step would answer, and more slowly.
+    // The state is taken apart here: a core, and the queue, which is lent to each input where it stands.
     pub fn feed(self, text: &[u8], lent: &mut [u8], out: &mut [u8]) -> Fed
         requires { ⌜ IsState (self .state) ⌝ }
         requires { ⌜ self .number + length (now text) < 2 ^ 64 ⌝ }
@@ -68,7 +63,10 @@ impl Session {
     {
         let room = text::line_room(lent.len());
         let n = text.len();
-        let mut state = self.state;
+        let state = self.state;
+        let mut core = state.core();
+        let mut waiting = state.queue.len;
+        let mut queue = state.queue.bytes;
         let mut number = self.number;
         let mut from = 0;
         let mut at = 0;
@@ -79,7 +77,7 @@ impl Session {
                 if end == n {
                     return Fed {
                         session: Session {
-                            state: state,
+                            state: core.with_queue(queue, waiting),
                             number: number,
                         },
                         used: from,
@@ -92,110 +90,17 @@ impl Session {
                 continue;
             };
             let end = from + len;
-            let kind = input;
-            match kind {
-                Input::Tick => {
-                    if state.ticks_alone() {
-                        let clock = state.clock;
-                        let later = clock.tick();
-                        state.clock = later;
-                        at += text::write_line(number, TAKEN, lent, 0, &mut out[at..]);
-                        number += 1;
-                        from = end + 1;
-                        continue;
-                    }
-                }
-                Input::Key { code, down } => {
-                    if state.passes_key(code) {
-                        if 0 < lent.len() {
-                            lent[0] = output::code_sent(code, down);
-                            at += text::write_line(number, TAKEN, lent, 1, &mut out[at..]);
-                            number += 1;
-                            from = end + 1;
-                            continue;
-                        }
-                    }
-                }
-                Input::Move { dx, dy } => {
-                    if state.sends_at_once(input) {
-                        let settings = state.settings;
-                        let mouse = state.mouse;
-                        let moved = mouse.moves(false, settings, dx, dy);
-                        let sending = moved.sending;
-                        if sending.len() <= lent.len() {
-                            let sent = sending.write(lent);
-                            let pointer = moved.mouse;
-                            state.mouse = pointer;
-                            at += text::write_line(number, TAKEN, lent, sent, &mut out[at..]);
-                            number += 1;
-                            from = end + 1;
-                            continue;
-                        }
-                    }
-                }
-                Input::Byte(b) => {
-                    let half = state.command;
-                    let got = half.feed(b);
-                    if !got.whole {
-                        let command = got.command;
-                        state.command = command;
-                        at += text::write_line(number, TAKEN, lent, 0, &mut out[at..]);
-                        number += 1;
-                        from = end + 1;
-                        continue;
-                    }
-                    let obeyed = state.obeys(got);
-                    let short = obeyed.short;
-                    if obeyed.alone {
-                        if short.len <= lent.len() {
-                            let sent = short.write(lent);
-                            let command = got.command;
-                            let settings = obeyed.settings;
-                            let mouse = obeyed.mouse;
-                            let sticks = obeyed.sticks;
-                            let clock = obeyed.clock;
-                            state.command = command;
-                            state.settings = settings;
-                            state.mouse = mouse;
-                            state.sticks = sticks;
-                            state.clock = clock;
-                            at += text::write_line(number, TAKEN, lent, sent, &mut out[at..]);
-                            number += 1;
-                            from = end + 1;
-                            continue;
-                        }
-                    }
-                }
-                _ => {}
-            }
-            if state.sends_at_once(input) {
-                let came = state.comes_to(input);
-                let sending = came.sending;
-                let short = came.short;
-                if sending.len() + short.len <= lent.len() {
-                    let sent = controller::emit(sending, short, lent);
-                    let mouse = came.mouse;
-                    let sticks = came.sticks;
-                    let clock = came.clock;
-                    state.mouse = mouse;
-                    state.sticks = sticks;
-                    state.clock = clock;
-                    at += text::write_line(number, TAKEN, lent, sent, &mut out[at..]);
-                    number += 1;
-                    from = end + 1;
-                    continue;
-                }
-            }
-            let done = state.step(input, lent);
+            let done = core.apply(input, waiting, &mut queue, lent);
             let answer = done.answer;
-            state = done.state;
+            core = done.core;
+            waiting = done.waiting;
             at += text::write_line(number, answer.number(), lent, done.count, &mut out[at..]);
             number += 1;
             from = end + 1;
         }
         Fed {
             session: Session {
-                state: state,
+                state: core.with_queue(queue, waiting),
                 number: number,
             },
             used: from,

@@ -2,20 +2,21 @@
 -- Assumes nothing.
 use Prim.Native.Nat.{ℕ, _+_, _≤_, _<_}
 use native.Mathlib.Omega.{arith}
-use mathlib.Core.Path.{_≡_, sym, ap, _∙_}
+use mathlib.Core.Path.{_≡_, refl, sym, ap, _∙_}
 use mathlib.Core.Bool.{Bool, true, false, cond}
 use mathlib.Core.List.{List, [], _∷_, _++_, append-nil, append-assoc}
 use lib.Dec.{eqb}
 use lib.ListN.{length, length-append}
-use Rattle.output.specs.ScanCodes.{break-of}
-use Rattle.output.specs.Packets.{scan, bit, bytes, pair}
+use Rattle.output.specs.ScanCodes.{break-of, code-sent, key-left, key-right}
+use Rattle.output.specs.Packets.{Packet, scan, bit, bytes, pair}
 use Rattle.output.specs.Short.{short-room, short-of, added}
 use Rattle.output.proofs.Packets.{bytes-append}
 use Rattle.output.proofs.Runs.{short-added}
 use Rattle.sticks.specs.declared.Sticks.{Sticks}
 use Rattle.sticks.specs.declared.SticksTold.{SticksTold}
 use Rattle.sticks.specs.Sticks.{CountDue, told-of, closed, direction, horizontal, vertical}
-use Rattle.sticks.specs.Keys.{pair-of, scan-of, with-pair, with-code, keyed}
+use Rattle.sticks.specs.Events.{keys-sent}
+use Rattle.sticks.specs.Keys.{pair-of, scan-of, with-pair, with-code}
 
 -- a direction is a make code
 direction-make : (a b : Bool) (m n : ℕ) → m ≤ 0x7F → n ≤ 0x7F → direction a m b n ≤ 0x7F
@@ -31,6 +32,13 @@ horizontal-make position = direction-make (closed 4 position) (closed 8 position
 pub vertical-make : (position : ℕ) → vertical position ≤ 0x7F
 unfolding vertical
 vertical-make position = direction-make (closed 1 position) (closed 2 position) _ _ (omega arith) (omega arith)
+
+-- a trigger's code is never 0
+pub code-scan : (one new : Bool) → scan-of (code-sent (cond one key-right key-left) new) ≡ scan (code-sent (cond one key-right key-left) new) ∷ []
+code-scan true true = refl
+code-scan true false = refl
+code-scan false true = refl
+code-scan false false = refl
 
 -- a bit is 0 or 1
 pub bit-most : (b : Bool) → bit b ≤ 1
@@ -72,6 +80,6 @@ keys-bytes x y code =
     ∙ ap (λ (l : List ℕ). bytes (pair-of x) ++ l) (bytes-append (pair-of y) (scan-of code)))
 
 -- both axes, where each comes to what is due
-pub axes-told : (dx dy : CountDue) {x y : CountDue} (code : ℕ) (s : Sticks) {r : SticksTold} → r ≡ told-of (keyed dx dy code s) → dx ≡ x → dy ≡ y
-    → r ≡ told-of (keyed x y code s)
-axes-told dx dy code s e p q = rw (← p, ← q) e
+pub axes-told : (dx dy : CountDue) {x y : CountDue} (trigger : List Packet) (s : Sticks) {r : SticksTold} → r ≡ told-of (keys-sent dx dy trigger s) → dx ≡ x → dy ≡ y
+    → r ≡ told-of (keys-sent x y trigger s)
+axes-told dx dy trigger s e p q = rw (← p, ← q) e

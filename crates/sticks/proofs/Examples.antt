@@ -8,7 +8,7 @@ use Rattle.output.specs.Packets.{bytes, pair, samples, monitor}
 use Rattle.protocol.specs.declared.Repeat.{Repeat}
 use Rattle.protocol.specs.declared.MouseMode.the-variants.{Relative}
 use Rattle.protocol.specs.declared.StickMode.{StickMode}
-use Rattle.protocol.specs.declared.StickMode.the-variants.{Event, Monitoring, Fire, Cursor}
+use Rattle.protocol.specs.declared.StickMode.the-variants.{Event, Monitoring, Fire, StickKeycode}
 use Rattle.protocol.specs.declared.Role.{Role}
 use Rattle.protocol.specs.declared.Role.the-variants.{ForMouse, ForJoystick}
 use Rattle.protocol.specs.declared.Settings.{Settings}
@@ -16,9 +16,9 @@ use Rattle.protocol.specs.declared.StickCommand.the-variants.{ReportSticks, Set
 use Rattle.sticks.specs.declared.Stick.{Stick}
 use Rattle.sticks.specs.declared.Sticks.{Sticks}
 use Rattle.sticks.specs.Sticks.{quiet, unmoved, no-count, centred, horizontal, vertical}
-use Rattle.sticks.specs.Events.{heard, steers, reported, trigger-keys, turned, turned-x, turned-y, cursor-moved, moved-in, moved}
-use Rattle.sticks.specs.Ticks.{both, monitored, older, interval, repeated, aged, both-aged, ticked-in, ticked, gathered, sampled-in, sampled}
-use Rattle.sticks.specs.Commands.{commanded, left-from}
+use Rattle.sticks.specs.Events.{heard, stick-reported, trigger-keys, axis-turned, axis-moved, stick-keyed, stick-moved-in, stick-moved}
+use Rattle.sticks.specs.Ticks.{both, monitored, older, interval, repeated, axis-aged, axes-aged, ticked-in, ticked, sample-taken, sampled-in, sampled}
+use Rattle.sticks.specs.Commands.{commanded, monitoring-left}
 
 -- every 0.5 s for the first 0.2 s, and every 0.7 s from then on
 abbrev slowing : Repeat
@@ -92,7 +92,7 @@ counts-stop = refl
 -- both arrows at one tick: the horizontal one first
 pub arrows-at-a-tick :
     bytes
-    (ticked false (playing (Cursor slowing slowing) ForJoystick)
+    (ticked false (playing (StickKeycode slowing slowing) ForJoystick)
     (record {
       zero = pointing 9 false;
       one = centred;
@@ -104,25 +104,25 @@ pub arrows-at-a-tick :
     })
     .packets)
     ≡ (0x4D ∷ 0xCD ∷ 0x48 ∷ 0xC8 ∷ [])
-unfolding ticked ticked-in steers both-aged aged repeated interval horizontal vertical
+unfolding ticked ticked-in heard axes-aged axis-aged repeated interval horizontal vertical
 arrows-at-a-tick = refl
 
 -- keycode mode, up and right and the trigger: horizontal, vertical, trigger
 pub keys-of-a-move :
-    bytes (moved (playing (Cursor slowing slowing) ForJoystick) false (pointing 9 true) (held centred centred) .packets)
+    bytes (stick-moved (playing (StickKeycode slowing slowing) ForJoystick) false (pointing 9 true) (held centred centred) .packets)
     ≡ (0x4D ∷ 0xCD ∷ 0x48 ∷ 0xC8 ∷ 0x74 ∷ [])
-unfolding moved moved-in cursor-moved turned-x turned-y turned steers trigger-keys heard horizontal vertical
+unfolding stick-moved stick-moved-in stick-keyed axis-moved axis-turned trigger-keys heard horizontal vertical
 keys-of-a-move = refl
 
 -- keycode mode, the trigger of stick 1 let go: its break alone
 pub key-of-stick-one :
-    bytes (moved (playing (Cursor slowing slowing) ForMouse) true (pointing 9 false) (held centred (pointing 9 true)) .packets) ≡ (0xF5 ∷ [])
-unfolding moved moved-in cursor-moved turned-x turned-y turned steers trigger-keys heard horizontal vertical
+    bytes (stick-moved (playing (StickKeycode slowing slowing) ForMouse) true (pointing 9 false) (held centred (pointing 9 true)) .packets) ≡ (0xF5 ∷ [])
+unfolding stick-moved stick-moved-in stick-keyed axis-moved axis-turned trigger-keys heard horizontal vertical
 key-of-stick-one = refl
 
 -- a new direction starts its counts again, and an axis that keeps its direction keeps them
 pub counts-again :
-    moved (playing (Cursor slowing slowing) ForJoystick) false (pointing 5 false)
+    stick-moved (playing (StickKeycode slowing slowing) ForJoystick) false (pointing 5 false)
     (record {
       zero = pointing 9 false;
       one = centred;
@@ -144,29 +144,29 @@ pub counts-again :
         bits = 0;
       };
     }
-unfolding moved moved-in cursor-moved turned-x turned-y turned steers trigger-keys heard horizontal vertical
+unfolding stick-moved stick-moved-in stick-keyed axis-moved axis-turned trigger-keys heard horizontal vertical
 counts-again = refl
 
 -- event mode: stick 0 where port 0 is a joystick, and stick 1
 pub event-of-stick-zero :
-    bytes (moved (playing Event ForJoystick) false (pointing 1 true) (held centred centred) .packets) ≡ (0xFE ∷ 0x81 ∷ [])
-unfolding moved moved-in reported heard
+    bytes (stick-moved (playing Event ForJoystick) false (pointing 1 true) (held centred centred) .packets) ≡ (0xFE ∷ 0x81 ∷ [])
+unfolding stick-moved stick-moved-in stick-reported heard
 event-of-stick-zero = refl
 
 pub event-of-stick-one :
-    bytes (moved (playing Event ForMouse) true (pointing 8 false) (held centred centred) .packets) ≡ (0xFF ∷ 0x08 ∷ [])
-unfolding moved moved-in reported heard
+    bytes (stick-moved (playing Event ForMouse) true (pointing 8 false) (held centred centred) .packets) ≡ (0xFF ∷ 0x08 ∷ [])
+unfolding stick-moved stick-moved-in stick-reported heard
 event-of-stick-one = refl
 
 -- event mode: nothing where the byte is the same, and nothing of stick 0 where port 0 is a mouse
 pub event-unchanged :
-    moved (playing Event ForMouse) true (pointing 8 false) (held centred (pointing 8 false)) ≡ quiet (held centred (pointing 8 false))
-unfolding moved moved-in reported heard
+    stick-moved (playing Event ForMouse) true (pointing 8 false) (held centred (pointing 8 false)) ≡ quiet (held centred (pointing 8 false))
+unfolding stick-moved stick-moved-in stick-reported heard
 event-unchanged = refl
 
 pub event-unheard :
-    moved (playing Event ForMouse) false (pointing 1 true) (held centred centred) ≡ quiet (held (pointing 1 true) centred)
-unfolding moved moved-in reported heard
+    stick-moved (playing Event ForMouse) false (pointing 1 true) (held centred centred) ≡ quiet (held (pointing 1 true) centred)
+unfolding stick-moved stick-moved-in stick-reported heard
 event-unheard = refl
 
 -- monitoring at a rate of 2: nothing at the first tick, both sticks at the second
@@ -192,7 +192,7 @@ pub eight-samples :
     sampled false (playing Fire ForJoystick) 0
     (next-sample 0 (next-sample 0 (next-sample 0 (next-sample 1 (next-sample 0 (next-sample 1 (next-sample 1 (held centred centred))))))))
     ≡ record { packets = samples 0xD0 ∷ []; sticks = held centred centred }
-unfolding sampled sampled-in gathered
+unfolding sampled sampled-in sample-taken
 eight-samples = refl
 
 -- 0x16 sends both sticks, stick 0 first
@@ -217,7 +217,7 @@ unfolding commanded
 cleared-by-mode = refl
 
 pub cleared-by-leaving :
-    left-from (Monitoring 9)
+    monitoring-left (Monitoring 9)
     (record {
       zero = pointing 1 true;
       one = centred;
@@ -236,5 +236,5 @@ pub cleared-by-leaving :
       samples = 0;
       bits = 0;
     }
-unfolding left-from
+unfolding monitoring-left
 cleared-by-leaving = refl

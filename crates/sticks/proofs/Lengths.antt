@@ -3,7 +3,7 @@
 use Prim.Native.Nat.{ℕ, _+_, _≤_}
 use native.Mathlib.Omega.{arith}
 use mathlib.Core.Bool.{Bool, true, false, cond, not, _&&_}
-use mathlib.Core.List.{List, _++_}
+use mathlib.Core.List.{List, [], _++_}
 use lib.Dec.{eqb, leb, ltb}
 use lib.ListN.{length, length-append}
 use Rattle.output.specs.Packets.{Packet, bytes}
@@ -11,17 +11,17 @@ use Rattle.output.proofs.Packets.{bytes-append}
 use Rattle.output.proofs.Cases.{both-ways}
 use Rattle.protocol.specs.declared.Repeat.{Repeat}
 use Rattle.protocol.specs.declared.StickMode.{StickMode}
-use Rattle.protocol.specs.declared.StickMode.the-variants.{Event, Interrogation, Monitoring, Fire, Cursor}
+use Rattle.protocol.specs.declared.StickMode.the-variants.{Event, Interrogation, Monitoring, Fire, StickKeycode}
 use Rattle.protocol.specs.declared.Settings.{Settings}
 use Rattle.protocol.specs.Settings.{acts-as}
 use Rattle.protocol.specs.declared.StickCommand.{StickCommand}
-use Rattle.protocol.specs.declared.StickCommand.the-variants.{SetEvent, SetInterrogation, ReportSticks, SetMonitoring, SetFire, SetCursor, SticksOff}
+use Rattle.protocol.specs.declared.StickCommand.the-variants.{SetEvent, SetInterrogation, ReportSticks, SetMonitoring, SetFire, SetStickKeycode, SticksOff}
 use Rattle.sticks.specs.declared.Stick.{Stick}
 use Rattle.sticks.specs.declared.Count.{Count}
 use Rattle.sticks.specs.declared.Sticks.{Sticks}
 use Rattle.sticks.specs.Sticks.{SticksDue, CountDue, byte, horizontal, vertical, stick-at}
-use Rattle.sticks.specs.Events.{heard, steers, reported, trigger-keys, turned, turned-x, turned-y, cursor-moved, moved-in, moved}
-use Rattle.sticks.specs.Ticks.{both, monitored, older, interval, repeated, aged, both-aged, ticked-in, ticked, gathered, sampled-in, sampled}
+use Rattle.sticks.specs.Events.{heard, stick-reported, trigger-keys, axis-turned, axis-moved, stick-keyed, stick-moved-in, stick-moved}
+use Rattle.sticks.specs.Ticks.{both, monitored, older, interval, repeated, axis-aged, axes-aged, ticked-in, ticked, sample-taken, sampled-in, sampled}
 use Rattle.sticks.specs.Commands.{commanded}
 
 -- at most n bytes
@@ -38,46 +38,48 @@ OfSticks n d = AtMost n (d .packets)
 append-length : (m n : ℕ) (ps qs : List Packet) → AtMost m ps → AtMost n qs → AtMost (m + n) (ps ++ qs)
 append-length m n ps qs p q = record { length-most = simp (bytes-append, length-append) (omega arith) }
 
-reported-length : (σ : Settings) (one : Bool) (old new : Stick) → AtMost 2 (reported σ one old new)
-unfolding reported
-reported-length σ one old new = both-ways (AtMost 2) (heard σ one && not (eqb (byte old) (byte new))) (λ e. omega arith) (λ e. omega arith)
+stick-reported-length : (on one : Bool) (old new : Stick) → AtMost 2 (stick-reported on one old new)
+unfolding stick-reported
+stick-reported-length on one old new = both-ways (AtMost 2) (on && not (eqb (byte old) (byte new))) (λ e. omega arith) (λ e. omega arith)
 
-trigger-length : (σ : Settings) (one : Bool) (old new : Stick) → AtMost 1 (trigger-keys σ one old new)
+trigger-length : (on one old new : Bool) → AtMost 1 (trigger-keys on one old new)
 unfolding trigger-keys
-trigger-length σ one old new =
-    both-ways (AtMost 1) (heard σ one && not (cond (old .trigger) (new .trigger) (not (new .trigger)))) (λ e. omega arith) (λ e. omega arith)
+trigger-length on one old new = both-ways (AtMost 1) (on && not (cond old new (not new))) (λ e. omega arith) (λ e. omega arith)
 
-turned-length : (old new : ℕ) (c : Count) → AtMost 2 (turned old new c .packets)
-unfolding turned
-turned-length old new c =
+axis-turned-length : (old new : ℕ) (c : Count) → AtMost 2 (axis-turned old new c .packets)
+unfolding axis-turned
+axis-turned-length old new c =
     both-ways (OfAxis 2) (eqb old new) (λ e. omega arith) (λ e. both-ways (AtMost 2) (eqb new 0) (λ f. omega arith) (λ f. omega arith))
 
-turned-x-length : (σ : Settings) (one : Bool) (old new : Stick) (s : Sticks) → AtMost 2 (turned-x σ one old new s .packets)
-unfolding turned-x
-turned-x-length σ one old new s = both-ways (OfAxis 2) (steers σ && not one) (λ e. turned-length _ _ (s .x)) (λ e. omega arith)
+axis-moved-length : (on one : Bool) (direction : ℕ → ℕ) (old new : Stick) (c : Count) → AtMost 2 (axis-moved on one direction old new c .packets)
+unfolding axis-moved
+axis-moved-length on one direction old new c = both-ways (OfAxis 2) (on && not one) (λ e. axis-turned-length _ _ c) (λ e. omega arith)
 
-turned-y-length : (σ : Settings) (one : Bool) (old new : Stick) (s : Sticks) → AtMost 2 (turned-y σ one old new s .packets)
-unfolding turned-y
-turned-y-length σ one old new s = both-ways (OfAxis 2) (steers σ && not one) (λ e. turned-length _ _ (s .y)) (λ e. omega arith)
+-- both axes and a trigger, one after the other
+keys-length : (m : ℕ) (x y trigger : List Packet) → AtMost 2 x → AtMost 2 y → AtMost m trigger → AtMost (2 + (2 + m)) (x ++ (y ++ trigger))
+keys-length m x y trigger p q r = append-length 2 (2 + m) _ _ p (append-length 2 m _ _ q r)
 
-cursor-length : (σ : Settings) (one : Bool) (new : Stick) (s : Sticks) → AtMost 5 (cursor-moved σ one new s .packets)
-unfolding cursor-moved
-cursor-length σ one new s =
-    append-length 2 3 _ _ (turned-x-length σ one (stick-at one s) new s)
-    (append-length 2 1 _ _ (turned-y-length σ one (stick-at one s) new s) (trigger-length σ one (stick-at one s) new))
+stick-keyed-length : (on one : Bool) (new : Stick) (s : Sticks) → AtMost 5 (stick-keyed on one new s .packets)
+unfolding stick-keyed
+stick-keyed-length on one new s =
+    let old = stick-at one s in
+    keys-length 1 _ _ _
+    (axis-moved-length on one horizontal old new (s .x))
+    (axis-moved-length on one vertical old new (s .y))
+    (trigger-length on one (old .trigger) (new .trigger))
 
-moved-in-length : (mode : StickMode) (σ : Settings) (one : Bool) (new : Stick) (s : Sticks) → AtMost 5 (moved-in mode σ one new s .packets)
-unfolding moved-in
-moved-in-length Event σ one new s = let h = reported-length σ one (stick-at one s) new in omega arith
-moved-in-length Interrogation σ one new s = omega arith
-moved-in-length (Monitoring rate) σ one new s = omega arith
-moved-in-length Fire σ one new s = omega arith
-moved-in-length (Cursor x y) σ one new s = cursor-length σ one new s
+stick-moved-in-length : (mode : StickMode) (on one : Bool) (new : Stick) (s : Sticks) → AtMost 5 (stick-moved-in mode on one new s .packets)
+unfolding stick-moved-in
+stick-moved-in-length Event on one new s = let h = stick-reported-length on one (stick-at one s) new in omega arith
+stick-moved-in-length Interrogation on one new s = omega arith
+stick-moved-in-length (Monitoring rate) on one new s = omega arith
+stick-moved-in-length Fire on one new s = omega arith
+stick-moved-in-length (StickKeycode x y) on one new s = stick-keyed-length on one new s
 
 -- a stick event sends at most two pairs and a key
-pub moved-length : (σ : Settings) (one : Bool) (new : Stick) (s : Sticks) → length (bytes (moved σ one new s .packets)) ≤ 5
-unfolding moved
-moved-length σ one new s = moved-in-length (σ .stick) σ one new s .length-most
+pub stick-moved-length : (σ : Settings) (one : Bool) (new : Stick) (s : Sticks) → length (bytes (stick-moved σ one new s .packets)) ≤ 5
+unfolding stick-moved
+stick-moved-length σ one new s = stick-moved-in-length (σ .stick) (heard σ one) one new s .length-most
 
 monitored-length : (rate : ℕ) (s : Sticks) → AtMost 4 (monitored rate s .packets)
 unfolding monitored both
@@ -88,14 +90,17 @@ unfolding repeated
 repeated-length k arrow c =
     both-ways (OfAxis 2) (ltb 0 (interval k (c .age)) && leb (interval k (c .age)) (c .wait)) (λ e. omega arith) (λ e. omega arith)
 
-aged-length : (k : Repeat) (arrow : ℕ) (c : Count) → AtMost 2 (aged k arrow c .packets)
-unfolding aged
-aged-length k arrow c = both-ways (OfAxis 2) (eqb arrow 0) (λ e. omega arith) (λ e. repeated-length k arrow (older c))
+axis-aged-length : (k : Repeat) (arrow : ℕ) (c : Count) → AtMost 2 (axis-aged k arrow c .packets)
+unfolding axis-aged
+axis-aged-length k arrow c = both-ways (OfAxis 2) (eqb arrow 0) (λ e. omega arith) (λ e. repeated-length k arrow (older c))
 
-both-aged-length : (kx ky : Repeat) (s : Sticks) → AtMost 4 (both-aged kx ky s .packets)
-unfolding both-aged
-both-aged-length kx ky s =
-    append-length 2 2 _ _ (aged-length kx (horizontal (s .zero .position)) (s .x)) (aged-length ky (vertical (s .zero .position)) (s .y))
+axes-aged-length : (kx ky : Repeat) (s : Sticks) → AtMost 4 (axes-aged kx ky s .packets)
+unfolding axes-aged
+axes-aged-length kx ky s =
+    keys-length 0 _ _ []
+    (axis-aged-length kx (horizontal (s .zero .position)) (s .x))
+    (axis-aged-length ky (vertical (s .zero .position)) (s .y))
+    (omega arith)
 
 ticked-in-length : (mode : StickMode) (σ : Settings) (s : Sticks) → AtMost 4 (ticked-in mode σ s .packets)
 unfolding ticked-in
@@ -103,7 +108,7 @@ ticked-in-length Event σ s = omega arith
 ticked-in-length Interrogation σ s = omega arith
 ticked-in-length (Monitoring rate) σ s = monitored-length rate s
 ticked-in-length Fire σ s = omega arith
-ticked-in-length (Cursor x y) σ s = both-ways (OfSticks 4) (steers σ) (λ e. both-aged-length x y s) (λ e. omega arith)
+ticked-in-length (StickKeycode x y) σ s = both-ways (OfSticks 4) (heard σ false) (λ e. axes-aged-length x y s) (λ e. omega arith)
 
 -- a tick sends at most two pairs
 pub ticked-length : (paused : Bool) (σ : Settings) (s : Sticks) → length (bytes (ticked paused σ s .packets)) ≤ 4
@@ -111,17 +116,17 @@ unfolding ticked
 ticked-length true σ s = omega arith
 ticked-length false σ s = ticked-in-length (σ .stick) σ s .length-most
 
-gathered-length : (b : ℕ) (s : Sticks) → AtMost 1 (gathered b s .packets)
-unfolding gathered
-gathered-length b s = both-ways (OfSticks 1) (ltb (s .samples) 7) (λ e. omega arith) (λ e. omega arith)
+sample-taken-length : (b : ℕ) (s : Sticks) → AtMost 1 (sample-taken b s .packets)
+unfolding sample-taken
+sample-taken-length b s = both-ways (OfSticks 1) (ltb (s .samples) 7) (λ e. omega arith) (λ e. omega arith)
 
 sampled-in-length : (mode : StickMode) (b : ℕ) (s : Sticks) → AtMost 1 (sampled-in mode b s .packets)
 unfolding sampled-in
 sampled-in-length Event b s = omega arith
 sampled-in-length Interrogation b s = omega arith
 sampled-in-length (Monitoring rate) b s = omega arith
-sampled-in-length Fire b s = gathered-length b s
-sampled-in-length (Cursor x y) b s = omega arith
+sampled-in-length Fire b s = sample-taken-length b s
+sampled-in-length (StickKeycode x y) b s = omega arith
 
 -- a fire sample sends at most a byte
 pub sampled-length : (paused : Bool) (σ : Settings) (b : ℕ) (s : Sticks) → length (bytes (sampled paused σ b s .packets)) ≤ 1
@@ -137,5 +142,5 @@ commanded-length SetInterrogation mode s = omega arith
 commanded-length ReportSticks mode s = omega arith
 commanded-length SetMonitoring mode s = omega arith
 commanded-length SetFire mode s = omega arith
-commanded-length SetCursor mode s = omega arith
+commanded-length SetStickKeycode mode s = omega arith
 commanded-length SticksOff mode s = omega arith

@@ -1,21 +1,20 @@
 -- What makes a value a state of the joysticks, and what keeps it one: a stored stick, new counts, cleared and left modes.
 -- Assumes nothing.
-use Prim.Native.Nat.{ℕ, _+_, _*_, _^_, _≤_, _<_}
+use Prim.Native.Nat.{ℕ, _+_, _*_, _^_, _≤_}
 use native.Mathlib.Omega.{arith}
 use native.Mathlib.Numerals.{add-one}
 use native.Mathlib.Nat.{two-pow-succ, pow-le-pow-right}
-use mathlib.Core.Path.{_≡_, refl}
-use mathlib.Core.Bool.{Bool, true, false, cond}
+use mathlib.Core.Path.{_≡_}
+use mathlib.Core.Bool.{Bool, true, false}
 use Rattle.protocol.specs.declared.StickMode.{StickMode}
-use Rattle.protocol.specs.declared.StickMode.the-variants.{Event, Interrogation, Monitoring, Fire, Cursor}
-use Rattle.protocol.specs.Settings.{acts-as}
+use Rattle.protocol.specs.declared.StickMode.the-variants.{Event, Interrogation, Monitoring, Fire, StickKeycode}
 use Rattle.protocol.specs.Commands.{leave-monitoring}
 use Rattle.sticks.specs.declared.Stick.{Stick}
 use Rattle.sticks.specs.declared.Count.{Count}
 use Rattle.sticks.specs.declared.Sticks.{Sticks}
 use Rattle.sticks.specs.Sticks.{IsCount, IsSticks, OneSticks, most-position, at-power-up, stick-at}
 use Rattle.sticks.specs.Events.{stored, with-counts}
-use Rattle.sticks.specs.Commands.{cleared, left-from}
+use Rattle.sticks.specs.Commands.{cleared, monitoring-left}
 
 -- the ranges, and the one way to write a state down
 pub record GoodSticks (mode : StickMode) (s : Sticks) : Type 0 where
@@ -35,10 +34,10 @@ pub stored-is : (mode : StickMode) (one : Bool) (new : Stick) (s : Sticks) → n
 stored-is mode true new s p h = omega arith
 stored-is mode false new s p h = omega arith
 
--- each stick's position is in range
-pub stick-most : (one : Bool) (s : Sticks) → s .zero .position ≤ most-position → s .one .position ≤ most-position → stick-at one s .position ≤ most-position
-stick-most true s z o = o
-stick-most false s z o = z
+-- each stick's position leaves bit 7 to the trigger
+pub position-low : (mode : StickMode) (one : Bool) (s : Sticks) → IsSticks mode s → stick-at one s .position ≤ 0x7F
+position-low mode true s h = omega arith
+position-low mode false s h = omega arith
 
 -- new counts
 pub counts-are : (mode : StickMode) (x y : Count) (s : Sticks) → IsCount x → IsCount y → GoodSticks mode s → GoodSticks mode (with-counts x y s)
@@ -49,25 +48,17 @@ pub cleared-is : (before after : StickMode) (s : Sticks) → GoodSticks before s
 cleared-is before after s h = omega arith
 
 -- after a monitoring mode is left, ticks and samples are 0, as the other modes have them
-pub left-is : (mode : StickMode) (s : Sticks) → GoodSticks mode s → GoodSticks (leave-monitoring mode) (left-from mode s)
-unfolding left-from
+pub left-is : (mode : StickMode) (s : Sticks) → GoodSticks mode s → GoodSticks (leave-monitoring mode) (monitoring-left mode s)
+unfolding monitoring-left
 left-is Event s h = h
 left-is Interrogation s h = h
 left-is (Monitoring rate) s h = omega arith
 left-is Fire s h = omega arith
-left-is (Cursor x y) s h = h
+left-is (StickKeycode x y) s h = h
 
 -- one more binary digit
 pub one-digit-more : (n : ℕ) → 2 ^ (n + 1) ≡ 2 * 2 ^ n
 one-digit-more n = rw add-one (omega (arith, two-pow-succ n))
-
--- the ticks of monitoring are below the rate as it acts
-pub ticks-below : (rate : ℕ) (s : Sticks) → GoodSticks (Monitoring rate) s → s .ticks < acts-as rate
-ticks-below rate s h = omega arith
-
--- both positions fit in one byte
-pub positions-byte : (mode : StickMode) (s : Sticks) → GoodSticks mode s → 16 * s .zero .position + s .one .position ≤ 255
-positions-byte mode s h = omega arith
 
 -- there are at most 7 samples, in every mode
 pub samples-most : (mode : StickMode) (s : Sticks) → GoodSticks mode s → s .samples ≤ 7
@@ -75,7 +66,7 @@ samples-most Event s h = omega arith
 samples-most Interrogation s h = omega arith
 samples-most (Monitoring rate) s h = omega arith
 samples-most Fire s h = omega arith
-samples-most (Cursor x y) s h = omega arith
+samples-most (StickKeycode x y) s h = omega arith
 
 -- the samples so far and one more fit in a byte
 pub sample-byte : (mode : StickMode) (b : ℕ) (s : Sticks) → b ≤ 1 → GoodSticks mode s → 2 * s .bits + b ≤ 255

@@ -1,18 +1,18 @@
 -- A stick event, in all five joystick modes (document 01, "Sticks, samples, clock").
 use Prim.Native.Nat.{ℕ}
-use mathlib.Core.Bool.{Bool, true, false, cond, not, _&&_, _||_}
+use mathlib.Core.Bool.{Bool, cond, not, _&&_, _||_}
 use mathlib.Core.List.{List, [], _∷_, _++_}
 use lib.Dec.{eqb}
 use Rattle.output.specs.ScanCodes.{code-sent, key-left, key-right}
 use Rattle.output.specs.Packets.{Packet, scan, stick, bit, pair}
 use Rattle.protocol.specs.declared.StickMode.{StickMode}
-use Rattle.protocol.specs.declared.StickMode.the-variants.{Event, Interrogation, Monitoring, Fire, Cursor}
+use Rattle.protocol.specs.declared.StickMode.the-variants.{Event, Interrogation, Monitoring, Fire, StickKeycode}
 use Rattle.protocol.specs.declared.Settings.{Settings}
 use Rattle.protocol.specs.Settings.{is-joystick}
 use Rattle.sticks.specs.declared.Stick.{Stick}
 use Rattle.sticks.specs.declared.Count.{Count}
 use Rattle.sticks.specs.declared.Sticks.{Sticks}
-use Rattle.sticks.specs.Sticks.{SticksDue, CountDue, unmoved, no-count, byte, stick-at, horizontal, vertical}
+use Rattle.sticks.specs.Sticks.{SticksDue, quiet, CountDue, unmoved, no-count, byte, stick-at, horizontal, vertical}
 
 -- "A stick event always stores its byte"
 abbrev pub stored : Bool → Stick → Sticks → Sticks
@@ -30,58 +30,52 @@ stored one new s = record {
 abbrev pub with-counts : Count → Count → Sticks → Sticks
 with-counts x y s = record { zero = s .zero; one = s .one; x = x; y = y; ticks = s .ticks; samples = s .samples; bits = s .bits }
 
--- "joysticks on ... and stick 1 or port 0 a joystick"
+-- which stick counts: "joysticks on ... and stick 1 or port 0 a joystick"
 unfoldable pub heard : Settings → Bool → Bool
 heard σ one = σ .stickson && (one || is-joystick (σ .port0))
 
--- keycode mode is "for stick 0 while port 0 is a joystick", with joysticks on
-unfoldable pub steers : Settings → Bool
-steers σ = σ .stickson && is-joystick (σ .port0)
+-- Event mode: "0xFE or 0xFF and the byte", where it is changed and the stick is heard (on)
+unfoldable pub stick-reported : Bool → Bool → Stick → Stick → List Packet
+stick-reported on one old new = cond (on && not (eqb (byte old) (byte new))) (stick (bit one) (byte new) ∷ []) []
 
--- Event mode: "0xFE or 0xFF and the byte", where it is changed
-unfoldable pub reported : Settings → Bool → Stick → Stick → List Packet
-reported σ one old new = cond (heard σ one && not (eqb (byte old) (byte new))) (stick (bit one) (byte new) ∷ []) []
-
--- "a changed trigger is a key, 0x74 for stick 0 if port 0 is a joystick, 0x75 for stick 1"
-unfoldable pub trigger-keys : Settings → Bool → Stick → Stick → List Packet
-trigger-keys σ one old new =
-    cond (heard σ one && not (cond (old .trigger) (new .trigger) (not (new .trigger))))
-    (scan (code-sent (cond one key-right key-left) (new .trigger)) ∷ []) []
+-- "a changed trigger is a key, 0x74 for stick 0 if port 0 is a joystick, 0x75 for stick 1"; `on` says that the stick is heard
+unfoldable pub trigger-keys : Bool → Bool → Bool → Bool → List Packet
+trigger-keys on one old new =
+    cond (on && not (cond old new (not new))) (scan (code-sent (cond one key-right key-left) new) ∷ []) []
 
 -- "When an axis's direction changes ..., its age and wait become 0, and a direction other than none gives a pair"
-unfoldable pub turned : ℕ → ℕ → Count → CountDue
-turned old new c =
+unfoldable pub axis-turned : ℕ → ℕ → Count → CountDue
+axis-turned old new c =
     cond (eqb old new) (unmoved c) (record { packets = cond (eqb new 0) [] (pair new); count = no-count })
 
--- stick 0's horizontal axis in keycode mode; "otherwise the counts stand still"
-unfoldable pub turned-x : Settings → Bool → Stick → Stick → Sticks → CountDue
-turned-x σ one old new s =
-    cond (steers σ && not one) (turned (horizontal (old .position)) (horizontal (new .position)) (s .x)) (unmoved (s .x))
+-- one axis at a stick event: "for stick 0 while port 0 is a joystick; otherwise the counts stand still"
+unfoldable pub axis-moved : Bool → Bool → (ℕ → ℕ) → Stick → Stick → Count → CountDue
+axis-moved on one direction old new c =
+    cond (on && not one) (axis-turned (direction (old .position)) (direction (new .position)) c) (unmoved c)
 
--- stick 0's vertical axis in keycode mode; "otherwise the counts stand still"
-unfoldable pub turned-y : Settings → Bool → Stick → Stick → Sticks → CountDue
-turned-y σ one old new s =
-    cond (steers σ && not one) (turned (vertical (old .position)) (vertical (new .position)) (s .y)) (unmoved (s .y))
+-- what two axes and a trigger come to in keycode mode: "Horizontal comes first, trigger last."
+abbrev pub keys-sent : CountDue → CountDue → List Packet → Sticks → SticksDue
+keys-sent x y trigger s =
+    record { packets = x .packets ++ (y .packets ++ trigger); sticks = with-counts (x .count) (y .count) s }
 
--- keycode mode: "Horizontal comes first, trigger last."
-unfoldable pub cursor-moved : Settings → Bool → Stick → Sticks → SticksDue
-cursor-moved σ one new s =
+-- keycode mode: a stick that is heard (on) gives the key of its trigger, and stick 0 arrows
+unfoldable pub stick-keyed : Bool → Bool → Stick → Sticks → SticksDue
+stick-keyed on one new s =
     let old = stick-at one s in
-    let x = turned-x σ one old new s in
-    let y = turned-y σ one old new s in
-    record {
-      packets = x .packets ++ (y .packets ++ trigger-keys σ one old new);
-      sticks = with-counts (x .count) (y .count) (stored one new s);
-    }
+    keys-sent
+    (axis-moved on one horizontal old new (s .x))
+    (axis-moved on one vertical old new (s .y))
+    (trigger-keys on one (old .trigger) (new .trigger))
+    (stored one new s)
 
 -- a stick event by mode; "Both monitoring modes send nothing else for events", and interrogation mode waits to be asked
-unfoldable pub moved-in : StickMode → Settings → Bool → Stick → Sticks → SticksDue
-moved-in Event σ one new s = record { packets = reported σ one (stick-at one s) new; sticks = stored one new s }
-moved-in Interrogation σ one new s = record { packets = []; sticks = stored one new s }
-moved-in (Monitoring rate) σ one new s = record { packets = []; sticks = stored one new s }
-moved-in Fire σ one new s = record { packets = []; sticks = stored one new s }
-moved-in (Cursor x y) σ one new s = cursor-moved σ one new s
+unfoldable pub stick-moved-in : StickMode → Bool → Bool → Stick → Sticks → SticksDue
+stick-moved-in Event on one new s = record { packets = stick-reported on one (stick-at one s) new; sticks = stored one new s }
+stick-moved-in Interrogation on one new s = quiet (stored one new s)
+stick-moved-in (Monitoring rate) on one new s = quiet (stored one new s)
+stick-moved-in Fire on one new s = quiet (stored one new s)
+stick-moved-in (StickKeycode x y) on one new s = stick-keyed on one new s
 
 -- an event of "Stick: 0 or 1, position 0 to 15, trigger", in the joystick mode that is set
-unfoldable pub moved : Settings → Bool → Stick → Sticks → SticksDue
-moved σ one new s = moved-in (σ .stick) σ one new s
+unfoldable pub stick-moved : Settings → Bool → Stick → Sticks → SticksDue
+stick-moved σ one new s = stick-moved-in (σ .stick) (heard σ one) one new s

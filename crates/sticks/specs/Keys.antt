@@ -1,16 +1,16 @@
--- How the code hands on the keys of keycode mode: by their codes, where 0 is none.
+-- For the contracts of private functions alone: how the code hands on the keys of keycode mode, by their codes, where 0 is none.
 use Prim.Native.Nat.{ℕ}
-use mathlib.Core.Bool.{Bool, cond, not, _&&_}
-use mathlib.Core.List.{List, [], _∷_, _++_}
+use mathlib.Core.Bool.{cond}
+use mathlib.Core.List.{List, [], _∷_}
 use lib.Dec.{eqb}
 use Rattle.output.specs.declared.Short.{Short}
-use Rattle.output.specs.ScanCodes.{break-of, code-sent, key-left, key-right}
+use Rattle.output.specs.ScanCodes.{break-of}
 use Rattle.output.specs.Packets.{Packet, scan, pair}
 use Rattle.output.specs.Short.{added}
 use Rattle.sticks.specs.declared.AxisTold.{AxisTold}
 use Rattle.sticks.specs.declared.Sticks.{Sticks}
 use Rattle.sticks.specs.Sticks.{CountDue, SticksDue, horizontal, vertical}
-use Rattle.sticks.specs.Events.{with-counts, turned}
+use Rattle.sticks.specs.Events.{axis-turned, keys-sent}
 
 -- an arrow's make and break
 abbrev pub pair-of : ℕ → List Packet
@@ -32,18 +32,10 @@ with-code code r = cond (eqb code 0) r (added code r)
 abbrev pub due-of : AxisTold → CountDue
 due-of r = record { packets = pair-of (r .arrow); count = r .count }
 
--- the code of a trigger that changed from old to new, if the stick counts
-abbrev pub trigger-code : Bool → Bool → Bool → Bool → ℕ
-trigger-code on one old new = cond (on && not (cond old new (not new))) (code-sent (cond one key-right key-left) new) 0
-
--- both axes of stick 0, "Horizontal comes first", and then a code
-abbrev pub keyed : CountDue → CountDue → ℕ → Sticks → SticksDue
-keyed x y code s = record { packets = x .packets ++ (y .packets ++ scan-of code); sticks = with-counts (x .count) (y .count) s }
-
 -- stick 0 came from the position old to where it stands, with the code of its trigger
-unfoldable pub steered : ℕ → ℕ → Sticks → SticksDue
-steered old code s =
-    keyed
-    (turned (horizontal old) (horizontal (s .zero .position)) (s .x))
-    (turned (vertical old) (vertical (s .zero .position)) (s .y))
-    code s
+unfoldable pub stick-turned : ℕ → ℕ → Sticks → SticksDue
+stick-turned old code s =
+    keys-sent
+    (axis-turned (horizontal old) (horizontal (s .zero .position)) (s .x))
+    (axis-turned (vertical old) (vertical (s .zero .position)) (s .y))
+    (scan-of code) s

@@ -7,7 +7,7 @@ use Rattle.output.specs.ScanCodes.{arrow-right, arrow-left, arrow-up, arrow-dow
 use Rattle.output.specs.Packets.{Packet, bit, bytes}
 use Rattle.output.specs.Short.{short-of}
 use Rattle.protocol.specs.declared.StickMode.{StickMode}
-use Rattle.protocol.specs.declared.StickMode.the-variants.{Event, Interrogation, Monitoring, Fire, Cursor}
+use Rattle.protocol.specs.declared.StickMode.the-variants.{Event, Interrogation, Monitoring, Fire, StickKeycode}
 use Rattle.protocol.specs.Settings.{acts-as}
 use Rattle.sticks.specs.declared.Stick.{Stick}
 use Rattle.sticks.specs.declared.Count.{Count}
@@ -17,6 +17,10 @@ use Rattle.sticks.specs.declared.SticksTold.{SticksTold}
 -- "position 0 to 15"
 abbrev pub most-position : ℕ
 most-position = 15
+
+-- "128·trigger + position": what the code asks of a position, that it leaves bit 7 to the trigger
+abbrev pub below-trigger : ℕ
+below-trigger = 0x7F
 
 -- "age and wait of each axis, 0 to 2,551"
 abbrev pub most-count : ℕ
@@ -28,7 +32,7 @@ most-ticks Event = 0
 most-ticks Interrogation = 0
 most-ticks (Monitoring rate) = acts-as rate - 1
 most-ticks Fire = 0
-most-ticks (Cursor x y) = 0
+most-ticks (StickKeycode x y) = 0
 
 -- "samples (0 to 7 of them)"
 abbrev pub most-samples : StickMode → ℕ
@@ -36,7 +40,7 @@ most-samples Event = 0
 most-samples Interrogation = 0
 most-samples (Monitoring rate) = 0
 most-samples Fire = 7
-most-samples (Cursor x y) = 0
+most-samples (StickKeycode x y) = 0
 
 -- "age and wait of each axis, 0 to 2,551": those of one axis
 pub record IsCount (c : Count) : Type 0 where

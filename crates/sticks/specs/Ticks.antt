@@ -1,18 +1,18 @@
--- Ticks and fire samples, while not paused (document 01, "Sticks, samples, clock").
+-- Ticks and fire samples, paused and not (document 01, "Sticks, samples, clock").
 use Prim.Native.Nat.{ℕ, _+_, _*_, min}
-use mathlib.Core.Bool.{Bool, true, false, cond, _&&_}
-use mathlib.Core.List.{List, [], _∷_, _++_}
+use mathlib.Core.Bool.{Bool, false, cond, _&&_}
+use mathlib.Core.List.{[], _∷_}
 use lib.Dec.{eqb, leb, ltb}
 use Rattle.output.specs.Packets.{Packet, monitor, samples, bit, pair}
 use Rattle.protocol.specs.declared.Repeat.{Repeat}
 use Rattle.protocol.specs.declared.StickMode.{StickMode}
-use Rattle.protocol.specs.declared.StickMode.the-variants.{Event, Interrogation, Monitoring, Fire, Cursor}
+use Rattle.protocol.specs.declared.StickMode.the-variants.{Event, Interrogation, Monitoring, Fire, StickKeycode}
 use Rattle.protocol.specs.declared.Settings.{Settings}
 use Rattle.protocol.specs.Settings.{acts-as}
 use Rattle.sticks.specs.declared.Count.{Count}
 use Rattle.sticks.specs.declared.Sticks.{Sticks}
 use Rattle.sticks.specs.Sticks.{SticksDue, quiet, CountDue, unmoved, most-count, horizontal, vertical}
-use Rattle.sticks.specs.Events.{with-counts, steers}
+use Rattle.sticks.specs.Events.{heard, keys-sent}
 
 -- the "monitoring ticks" put in place of those before; nothing else changes
 abbrev pub with-ticks : ℕ → Sticks → Sticks
@@ -33,7 +33,7 @@ monitored rate s =
     (record { packets = both s ∷ []; sticks = with-ticks 0 s })
     (quiet (with-ticks (s .ticks + 1) s))
 
--- "Each tick first adds one to age and wait of an axis that has a direction; both stop at 2,551."
+-- "adds one to age and wait ...; both stop at 2,551"
 abbrev pub older : Count → Count
 older c = record { age = min (c .age + 1) most-count; wait = min (c .wait + 1) most-count }
 
@@ -48,32 +48,30 @@ repeated k arrow c =
     (record { packets = pair arrow; count = record { age = c .age; wait = 0 } })
     (unmoved c)
 
--- one axis at a tick; without a direction it is left alone
-unfoldable pub aged : Repeat → ℕ → Count → CountDue
-aged k arrow c = cond (eqb arrow 0) (unmoved c) (repeated k arrow (older c))
+-- one axis at a tick: "Each tick first adds one to age and wait of an axis that has a direction"
+unfoldable pub axis-aged : Repeat → ℕ → Count → CountDue
+axis-aged k arrow c = cond (eqb arrow 0) (unmoved c) (repeated k arrow (older c))
 
--- both axes of stick 0 at a tick: "Horizontal comes first"
-unfoldable pub both-aged : Repeat → Repeat → Sticks → SticksDue
-both-aged kx ky s =
-    let x = aged kx (horizontal (s .zero .position)) (s .x) in
-    let y = aged ky (vertical (s .zero .position)) (s .y) in
-    record { packets = x .packets ++ y .packets; sticks = with-counts (x .count) (y .count) s }
+-- both axes of stick 0 at a tick, and no trigger
+unfoldable pub axes-aged : Repeat → Repeat → Sticks → SticksDue
+axes-aged kx ky s =
+    keys-sent (axis-aged kx (horizontal (s .zero .position)) (s .x)) (axis-aged ky (vertical (s .zero .position)) (s .y)) [] s
 
--- a tick by mode; in keycode mode "otherwise the counts stand still"
+-- a tick by mode; in keycode mode "for stick 0 while port 0 is a joystick; otherwise the counts stand still"
 unfoldable pub ticked-in : StickMode → Settings → Sticks → SticksDue
 ticked-in Event σ s = quiet s
 ticked-in Interrogation σ s = quiet s
 ticked-in (Monitoring rate) σ s = monitored rate s
 ticked-in Fire σ s = quiet s
-ticked-in (Cursor x y) σ s = cond (steers σ) (both-aged x y s) (quiet s)
+ticked-in (StickKeycode x y) σ s = cond (heard σ false) (axes-aged x y s) (quiet s)
 
 -- "Paused: ticks move only the clock"
 unfoldable pub ticked : Bool → Settings → Sticks → SticksDue
 ticked paused σ s = cond paused (quiet s) (ticked-in (σ .stick) σ s)
 
 -- "Fire: eight samples a byte, first in the top bit"
-unfoldable pub gathered : ℕ → Sticks → SticksDue
-gathered b s =
+unfoldable pub sample-taken : ℕ → Sticks → SticksDue
+sample-taken b s =
     cond (ltb (s .samples) 7)
     (quiet (with-samples (s .samples + 1) (2 * s .bits + b) s))
     (record { packets = samples (2 * s .bits + b) ∷ []; sticks = with-samples 0 0 s })
@@ -83,8 +81,8 @@ unfoldable pub sampled-in : StickMode → ℕ → Sticks → SticksDue
 sampled-in Event b s = quiet s
 sampled-in Interrogation b s = quiet s
 sampled-in (Monitoring rate) b s = quiet s
-sampled-in Fire b s = gathered b s
-sampled-in (Cursor x y) b s = quiet s
+sampled-in Fire b s = sample-taken b s
+sampled-in (StickKeycode x y) b s = quiet s
 
 -- "samples are dropped" while paused
 unfoldable pub sampled : Bool → Settings → ℕ → Sticks → SticksDue

@@ -2,32 +2,37 @@
 ghost use mathlib.Core.Path.{_≡_};
 ghost use Prim.Native.Nat.{_+_, _≤_, min};
 ghost use Rattle.sticks.specs.Sticks.{most-count, direction, horizontal, vertical};
-ghost use Rattle.sticks.specs.Events.{turned};
-ghost use Rattle.sticks.specs.Ticks.{interval, aged};
+ghost use Rattle.sticks.specs.Events.{axis-turned};
+ghost use Rattle.sticks.specs.Ticks.{interval, axis-aged};
 ghost use Rattle.sticks.specs.Keys.{due-of};
 use crate::AxisTold;
 use crate::Count;
+use output::ScanCode;
 use protocol::Repeat;
 
-// The make codes of the arrow keys.
-const RIGHT: u8 = 0x4D;
-
-const LEFT: u8 = 0x4B;
-
-const UP: u8 = 0x48;
-
-const DOWN: u8 = 0x50;
+// Where a repeat no longer depends on age and wait, they stop.
+const MOST_COUNT: u16 = 2551;
 
 pub(crate) fn horizontal(position: u8) -> u8
     ensures { λ r. ⌜ r ≡ horizontal position ⌝ }
 {
-    direction(position / 4 % 2 == 1, LEFT, position / 8 % 2 == 1, RIGHT)
+    direction(
+        position / 4 % 2 == 1,
+        ScanCode::ARROW_LEFT,
+        position / 8 % 2 == 1,
+        ScanCode::ARROW_RIGHT,
+    )
 }
 
 pub(crate) fn vertical(position: u8) -> u8
     ensures { λ r. ⌜ r ≡ vertical position ⌝ }
 {
-    direction(position % 2 == 1, UP, position / 2 % 2 == 1, DOWN)
+    direction(
+        position % 2 == 1,
+        ScanCode::ARROW_UP,
+        position / 2 % 2 == 1,
+        ScanCode::ARROW_DOWN,
+    )
 }
 
 // Of two opposite switches, each with its arrow: both closed are none.
@@ -47,9 +52,9 @@ fn direction(a: bool, first: u8, b: bool, second: u8) -> u8
 }
 
 // The direction may have changed.
-pub(crate) fn turned(old: u8, new: u8, count: Count) -> AxisTold
+pub(crate) fn axis_turned(old: u8, new: u8, count: Count) -> AxisTold
     requires { ⌜ new ≤ 0x7F ⌝ }
-    ensures due { λ r. ⌜ due-of r ≡ turned old new count ⌝ }
+    ensures due { λ r. ⌜ due-of r ≡ axis-turned old new count ⌝ }
     ensures make { λ r. ⌜ r .arrow ≤ 0x7F ⌝ }
 {
     if old == new {
@@ -62,9 +67,9 @@ pub(crate) fn turned(old: u8, new: u8, count: Count) -> AxisTold
 }
 
 // A tick.
-pub(crate) fn aged(repeat: Repeat, arrow: u8, count: Count) -> AxisTold
+pub(crate) fn axis_aged(repeat: Repeat, arrow: u8, count: Count) -> AxisTold
     requires { ⌜ arrow ≤ 0x7F ⌝ }
-    ensures due { λ r. ⌜ due-of r ≡ aged repeat arrow count ⌝ }
+    ensures due { λ r. ⌜ due-of r ≡ axis-aged repeat arrow count ⌝ }
     ensures make { λ r. ⌜ r .arrow ≤ 0x7F ⌝ }
 {
     if arrow == 0 {
@@ -92,11 +97,11 @@ pub(crate) fn aged(repeat: Repeat, arrow: u8, count: Count) -> AxisTold
     }
 }
 
-// A tick more; the counts stop where a repeat no longer depends on them.
+// A tick more.
 fn one_more(n: u16) -> u16
     ensures { λ r. ⌜ r ≡ min (n + 1) most-count ⌝ }
 {
-    if n < 2551 { n + 1 } else { 2551 }
+    if n < MOST_COUNT { n + 1 } else { MOST_COUNT }
 }
 
 // How many ticks lie between two arrow keys, at this age; 0 for no repeat. A breakpoint of 0 lies before every age.

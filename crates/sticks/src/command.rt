@@ -1,8 +1,8 @@
 // Executed commands.
 ghost use mathlib.Core.Path.{_≡_};
 ghost use Prim.Native.Nat.{_≤_};
-ghost use Rattle.sticks.specs.Sticks.{most-position, told-of};
-ghost use Rattle.sticks.specs.Commands.{cleared, left-from, commanded, mouse-commanded};
+ghost use Rattle.sticks.specs.Sticks.{below-trigger, told-of};
+ghost use Rattle.sticks.specs.Commands.{cleared, monitoring-left, commanded, mouse-commanded};
 use crate::Count;
 use crate::Sticks;
 use crate::SticksTold;
@@ -14,7 +14,7 @@ use protocol::StickMode;
 impl Sticks {
     // A command of the joysticks, in the mode `mode`.
     pub fn commanded(self, c: StickCommand, mode: StickMode) -> SticksTold
-        requires { ⌜ (self .zero .position ≤ most-position) × (self .one .position ≤ most-position) ⌝ }
+        requires { ⌜ (self .zero .position ≤ below-trigger) × (self .one .position ≤ below-trigger) ⌝ }
         ensures { λ r. ⌜ r ≡ told-of (commanded c mode self) ⌝ }
     {
         match c {
@@ -22,7 +22,7 @@ impl Sticks {
                 short: Short::three(0xFD, self.zero.byte(), self.one.byte()),
                 sticks: self,
             },
-            StickCommand::SticksOff => self.left_from(mode).quiet(),
+            StickCommand::SticksOff => self.monitoring_left(mode).quiet(),
             _ => self.cleared().quiet(),
         }
     }
@@ -33,7 +33,7 @@ impl Sticks {
     {
         match c {
             MouseCommand::SetRelative | MouseCommand::SetAbsolute | MouseCommand::SetKeycode =>
-                self.left_from(mode),
+                self.monitoring_left(mode),
             _ => self,
         }
     }
@@ -52,8 +52,8 @@ impl Sticks {
     }
 
     // A monitoring mode that is left takes what it has gathered with it.
-    fn left_from(mut self, mode: StickMode) -> Self
-        ensures { λ r. ⌜ r ≡ left-from mode self ⌝ }
+    fn monitoring_left(mut self, mode: StickMode) -> Self
+        ensures { λ r. ⌜ r ≡ monitoring-left mode self ⌝ }
     {
         match mode {
             StickMode::Monitoring { rate: _ } | StickMode::Fire => {

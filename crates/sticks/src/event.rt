@@ -1,57 +1,50 @@
 // A stick event.
 ghost use mathlib.Core.Path.{_≡_};
-ghost use mathlib.Core.Bool.{cond, not, _&&_, _||_};
-ghost use mathlib.Core.List.{_∷_, []};
+ghost use mathlib.Core.Bool.{cond, not};
 ghost use Prim.Native.Nat.{_≤_};
-ghost use lib.Dec.{eqb};
-ghost use Rattle.output.specs.Packets.{bytes, stick, bit};
+ghost use Rattle.output.specs.Packets.{bytes};
 ghost use Rattle.output.specs.Short.{short-of};
-ghost use Rattle.protocol.specs.Settings.{is-joystick};
-ghost use Rattle.sticks.specs.Sticks.{IsSticks, most-position, told-of, byte, stick-at};
-ghost use Rattle.sticks.specs.Events.{stored, moved};
-ghost use Rattle.sticks.specs.Keys.{trigger-code, steered};
+ghost use Rattle.sticks.specs.Sticks.{below-trigger, told-of, stick-at};
+ghost use Rattle.sticks.specs.Events.{stored, heard, stick-reported, trigger-keys, stick-moved};
+ghost use Rattle.sticks.specs.Keys.{scan-of, stick-turned};
 use crate::Stick;
 use crate::Sticks;
 use crate::SticksTold;
-use crate::axis;
-use crate::keys;
+use crate::axis::axis_turned;
+use crate::axis::horizontal;
+use crate::axis::vertical;
+use crate::keys::keys;
+use output::ScanCode;
 use output::Short;
 use protocol::Role;
 use protocol::Settings;
 use protocol::StickMode;
 
-// The triggers as keys: the codes of the mouse's buttons.
-const TRIGGER_ZERO: u8 = 0x74;
-
-const TRIGGER_ONE: u8 = 0x75;
-
 impl Sticks {
     // Stick 0 or 1 now stands so.
-    pub fn moved(self, settings: Settings, one: bool, new: Stick) -> SticksTold
-        requires { ⌜ new .position ≤ most-position ⌝ }
-        requires { ⌜ IsSticks (settings .stick) self ⌝ }
-        ensures { λ r. ⌜ r ≡ told-of (moved settings one new self) ⌝ }
+    pub fn stick_moved(self, settings: Settings, one: bool, new: Stick) -> SticksTold
+        requires { ⌜ (stick-at one self .position ≤ below-trigger) × (new .position ≤ below-trigger) ⌝ }
+        ensures { λ r. ⌜ r ≡ told-of (stick-moved settings one new self) ⌝ }
     {
         let mode = settings.stick;
-        let port0 = settings.port0;
         let old = self.stick_at(one);
         let next = self.stored(one, new);
-        let on = is_heard(settings.stickson, port0, one);
+        let on = is_heard(settings, one);
         match mode {
             StickMode::Event => SticksTold {
-                short: reported(on, one, old, new),
+                short: stick_reported(on, one, old, new),
                 sticks: next,
             },
-            StickMode::Cursor { x: _, y: _ } => {
+            StickMode::StickKeycode { x: _, y: _ } => {
                 let code = trigger_code(on, one, old.trigger, new.trigger);
                 if one {
                     return SticksTold {
-                        short: keys::keys(0, 0, code),
+                        short: keys(0, 0, code),
                         sticks: next,
                     };
                 }
                 if on {
-                    return next.steered(old.position, code);
+                    return next.stick_turned(old.position, code);
                 }
                 next.quiet()
             }
@@ -80,26 +73,27 @@ impl Sticks {
     }
 
     // Stick 0 has come from the position `old` to where it stands, in keycode mode; `code` is its trigger's, 0 for none.
-    fn steered(self, old: u8, code: u8) -> SticksTold
-        ensures { λ r. ⌜ r ≡ told-of (steered old code self) ⌝ }
+    fn stick_turned(self, old: u8, code: u8) -> SticksTold
+        ensures { λ r. ⌜ r ≡ told-of (stick-turned old code self) ⌝ }
     {
         let new = self.zero.position;
-        let x = axis::turned(axis::horizontal(old), axis::horizontal(new), self.x);
-        let y = axis::turned(axis::vertical(old), axis::vertical(new), self.y);
-        self.keyed(x, y, code)
+        let x = axis_turned(horizontal(old), horizontal(new), self.x);
+        let y = axis_turned(vertical(old), vertical(new), self.y);
+        self.keys_sent(x, y, code)
     }
 }
 
 // With joysticks on, stick 1 always counts, and stick 0 where port 0 is a joystick.
-pub(crate) fn is_heard(on: bool, port0: Role, one: bool) -> bool
-    ensures { λ r. ⌜ r ≡ (on && (one || is-joystick port0)) ⌝ }
+pub(crate) fn is_heard(settings: Settings, one: bool) -> bool
+    ensures { λ r. ⌜ r ≡ heard settings one ⌝ }
 {
-    if !on {
+    if !settings.stickson {
         return false;
     }
     if one {
         return true;
     }
+    let port0 = settings.port0;
     match port0 {
         Role::ForMouse => false,
         Role::ForJoystick => true,
@@ -107,9 +101,9 @@ pub(crate) fn is_heard(on: bool, port0: Role, one: bool) -> bool
 }
 
 // Event mode: a changed byte is sent.
-fn reported(on: bool, one: bool, old: Stick, new: Stick) -> Short
-    requires { ⌜ (old .position ≤ most-position) × (new .position ≤ most-position) ⌝ }
-    ensures { λ r. ⌜ r ≡ short-of (bytes (cond (on && not (eqb (byte old) (byte new))) (stick (bit one) (byte new) ∷ []) [])) ⌝ }
+fn stick_reported(on: bool, one: bool, old: Stick, new: Stick) -> Short
+    requires { ⌜ (old .position ≤ below-trigger) × (new .position ≤ below-trigger) ⌝ }
+    ensures { λ r. ⌜ r ≡ short-of (bytes (stick-reported on one old new)) ⌝ }
 {
     if !on {
         return Short::none();
@@ -126,7 +120,7 @@ fn reported(on: bool, one: bool, old: Stick, new: Stick) -> Short
 
 // Keycode mode: the code of a changed trigger, 0 for none.
 fn trigger_code(on: bool, one: bool, old: bool, new: bool) -> u8
-    ensures { λ r. ⌜ r ≡ trigger-code on one old new ⌝ }
+    ensures { λ r. ⌜ scan-of r ≡ trigger-keys on one old new ⌝ }
 {
     if !on {
         return 0;
@@ -135,9 +129,9 @@ fn trigger_code(on: bool, one: bool, old: bool, new: bool) -> u8
         return 0;
     }
     if one {
-        return output::code_sent(TRIGGER_ONE, new);
+        return output::code_sent(ScanCode::KEY_RIGHT, new);
     }
-    output::code_sent(TRIGGER_ZERO, new)
+    output::code_sent(ScanCode::KEY_LEFT, new)
 }
 
 fn same(a: bool, b: bool) -> bool

@@ -5,7 +5,8 @@ ghost use Prim.Native.Nat.{_+_, _≤_, _<_};
 ghost use Rattle.output.specs.Packets.{bytes};
 ghost use Rattle.output.specs.Short.{short-room, short-of};
 ghost use Rattle.sticks.specs.Sticks.{told-of};
-ghost use Rattle.sticks.specs.Keys.{pair-of, scan-of, with-pair, with-code, due-of, keyed};
+ghost use Rattle.sticks.specs.Events.{keys-sent};
+ghost use Rattle.sticks.specs.Keys.{pair-of, scan-of, with-pair, with-code, due-of};
 use crate::AxisTold;
 use crate::Sticks;
 use crate::SticksTold;
@@ -13,9 +14,9 @@ use output::Short;
 
 impl Sticks {
     // Both axes of stick 0, and a code, 0 for none.
-    pub(crate) fn keyed(mut self, x: AxisTold, y: AxisTold, code: u8) -> SticksTold
+    pub(crate) fn keys_sent(mut self, x: AxisTold, y: AxisTold, code: u8) -> SticksTold
         requires { ⌜ (x .arrow ≤ 0x7F) × (y .arrow ≤ 0x7F) ⌝ }
-        ensures { λ r. ⌜ r ≡ told-of (keyed (due-of x) (due-of y) code self) ⌝ }
+        ensures { λ r. ⌜ r ≡ told-of (keys-sent (due-of x) (due-of y) (scan-of code) self) ⌝ }
     {
         let countx = x.count;
         let county = y.count;

@@ -7,7 +7,7 @@ mod tick;
 
 ghost use mathlib.Core.Path.{_≡_};
 ghost use Prim.Native.Nat.{_≤_};
-ghost use Rattle.sticks.specs.Sticks.{most-position, at-power-up, quiet, told-of, byte};
+ghost use Rattle.sticks.specs.Sticks.{below-trigger, at-power-up, quiet, told-of, byte};
 use output::Short;
 
 // Bits 0 to 3 of the position are up, down, left, right.
@@ -46,8 +46,9 @@ pub(crate) struct AxisTold {
 }
 
 impl Stick {
+    // A position leaves bit 7 to the trigger.
     pub(crate) fn byte(self) -> u8
-        requires { ⌜ self .position ≤ most-position ⌝ }
+        requires { ⌜ self .position ≤ below-trigger ⌝ }
         ensures { λ r. ⌜ r ≡ byte self ⌝ }
     {
         if self.trigger {

@@ -1,14 +1,15 @@
 // Ticks and fire samples.
 ghost use mathlib.Core.Path.{_≡_};
-ghost use Prim.Native.Nat.{_≤_};
+ghost use Prim.Native.Nat.{_+_, _*_, _≤_};
 ghost use Rattle.output.specs.Packets.{bit};
-ghost use Rattle.protocol.specs.declared.StickMode.the-variants.{Monitoring, Fire};
-ghost use Rattle.sticks.specs.Sticks.{IsSticks, OneSticks, told-of};
-ghost use Rattle.sticks.specs.Ticks.{monitored, both-aged, ticked, gathered, sampled};
+ghost use Rattle.sticks.specs.Sticks.{told-of};
+ghost use Rattle.sticks.specs.Ticks.{monitored, axes-aged, ticked, sample-taken, sampled};
 use crate::Sticks;
 use crate::SticksTold;
-use crate::axis;
-use crate::event;
+use crate::axis::axis_aged;
+use crate::axis::horizontal;
+use crate::axis::vertical;
+use crate::event::is_heard;
 use output::Short;
 use protocol::Repeat;
 use protocol::Settings;
@@ -17,7 +18,7 @@ use protocol::StickMode;
 impl Sticks {
     // Paused, a tick moves only the clock.
     pub fn ticked(self, paused: bool, settings: Settings) -> SticksTold
-        requires { ⌜ IsSticks (settings .stick) self ⌝ }
+        requires { ⌜ 16 * self .zero .position + self .one .position ≤ 255 ⌝ }
         ensures { λ r. ⌜ r ≡ told-of (ticked paused settings self) ⌝ }
     {
         if paused {
@@ -26,10 +27,9 @@ impl Sticks {
         let mode = settings.stick;
         match mode {
             StickMode::Monitoring { rate } => self.monitored(rate),
-            StickMode::Cursor { x, y } => {
-                let port0 = settings.port0;
-                if event::is_heard(settings.stickson, port0, false) {
-                    return self.both_aged(x, y);
+            StickMode::StickKeycode { x, y } => {
+                if is_heard(settings, false) {
+                    return self.axes_aged(x, y);
                 }
                 self.quiet()
             }
@@ -39,9 +39,7 @@ impl Sticks {
 
     // `b` is a sample of the fire button; paused, it is dropped.
     pub fn sampled(self, paused: bool, settings: Settings, b: u8) -> SticksTold
-        requires { ⌜ b ≤ 1 ⌝ }
-        requires { ⌜ IsSticks (settings .stick) self ⌝ }
-        requires { ⌜ OneSticks self ⌝ }
+        requires { ⌜ 2 * self .bits + b ≤ 255 ⌝ }
         ensures { λ r. ⌜ r ≡ told-of (sampled paused settings b self) ⌝ }
     {
         if paused {
@@ -49,19 +47,18 @@ impl Sticks {
         }
         let mode = settings.stick;
         match mode {
-            StickMode::Fire => self.gathered(b),
+            StickMode::Fire => self.sample_taken(b),
             _ => self.quiet(),
         }
     }
 
     // Both sticks every `rate` ticks.
     fn monitored(mut self, rate: u8) -> SticksTold
-        requires { ⌜ IsSticks (Monitoring rate) self ⌝ }
+        requires { ⌜ 16 * self .zero .position + self .one .position ≤ 255 ⌝ }
         ensures { λ r. ⌜ r ≡ told-of (monitored rate self) ⌝ }
     {
-        let ticks = self.ticks + 1;
-        if ticks < protocol::acts_as(rate) {
-            self.ticks = ticks;
+        if self.ticks < protocol::acts_as(rate) - 1 {
+            self.ticks += 1;
             return self.quiet();
         }
         self.ticks = 0;
@@ -75,21 +72,19 @@ impl Sticks {
     }
 
     // Keycode mode: both axes of stick 0.
-    fn both_aged(self, kx: Repeat, ky: Repeat) -> SticksTold
-        ensures { λ r. ⌜ r ≡ told-of (both-aged kx ky self) ⌝ }
+    fn axes_aged(self, kx: Repeat, ky: Repeat) -> SticksTold
+        ensures { λ r. ⌜ r ≡ told-of (axes-aged kx ky self) ⌝ }
     {
         let position = self.zero.position;
-        let x = axis::aged(kx, axis::horizontal(position), self.x);
-        let y = axis::aged(ky, axis::vertical(position), self.y);
-        self.keyed(x, y, 0)
+        let x = axis_aged(kx, horizontal(position), self.x);
+        let y = axis_aged(ky, vertical(position), self.y);
+        self.keys_sent(x, y, 0)
     }
 
     // Fire monitoring: the eighth sample sends the byte.
-    fn gathered(mut self, b: u8) -> SticksTold
-        requires { ⌜ b ≤ 1 ⌝ }
-        requires { ⌜ IsSticks Fire self ⌝ }
-        requires { ⌜ OneSticks self ⌝ }
-        ensures { λ r. ⌜ r ≡ told-of (gathered b self) ⌝ }
+    fn sample_taken(mut self, b: u8) -> SticksTold
+        requires { ⌜ 2 * self .bits + b ≤ 255 ⌝ }
+        ensures { λ r. ⌜ r ≡ told-of (sample-taken b self) ⌝ }
     {
         let bits = 2 * self.bits + b;
         if self.samples < 7 {

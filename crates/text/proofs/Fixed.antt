@@ -7,14 +7,17 @@ use native.Mathlib.Omega.{arith}
 use mathlib.Core.Path.{_≡_, refl, ap, _∙_}
 use mathlib.Core.Bool.{Bool, true, false, cond, _&&_}
 use mathlib.Core.List.{List, [], _∷_}
-use mathlib.Core.Option.{none, some}
+use mathlib.Core.Option.{Option, none, some, Option·none-ne-some}
 use lib.Dec.{eqb, ltb}
 use lib.ListN.{length, take, drop, getD}
-use borrow.Author.Tests.{lt-ltb, le-ltb, lt-leb, eq-eqb, ne-eqb}
+use borrow.Author.Tests.{lt-leb, eq-eqb, ne-eqb, ltb-true}
+use Rattle.output.proofs.Cases.{and-true}
 use Rattle.controller.specs.declared.Input.{Input}
 use Rattle.text.specs.declared.Read.the-variants.{Whole, Unread}
+use Rattle.text.specs.declared.numbers.HexField.{HexField}
+use Rattle.text.specs.declared.numbers.HexField.the-variants.{Hex, NoHex}
 use Rattle.text.specs.Line.{Line, Good, Bad, line-feed, tab, fields, hex-digit, hex, level, one-more, two-more}
-use Rattle.text.specs.Fronts.{until, first}
+use Rattle.text.specs.Fronts.{hex-read, until, first}
 use Rattle.text.specs.Reading.{first-line, reads}
 use Rattle.text.proofs.Fields.{one-unread, one-last, two-unread, two-next}
 use Rattle.text.proofs.Lengths.{hex-length, level-length, hex-level-length}
@@ -49,35 +52,44 @@ digit-byte a h =
       | no l ↦ omega arith
     ]
 
-hex-none : (a b : ℕ) → (ltb (hex-digit a) 16 && ltb (hex-digit b) 16) ≡ false → (s t : Bool) → hex (cond s [] (a ∷ cond t [] (b ∷ []))) ≡ none
+hex-taken : (t : Bool) (x v : ℕ) → cond t (some x) none ≡ some v → t ≡ true
+hex-taken true x v e = refl
+hex-taken false x v e = absurd (Option·none-ne-some v e)
+
+digit-bytes : (a b v : ℕ) → hex (a ∷ b ∷ []) ≡ some v → (code "0" ≤ a) × (code "0" ≤ b)
+unfolding hex
+digit-bytes a b v e =
+    let t = and-true (ltb (hex-digit a) 16) (ltb (hex-digit b) 16) (hex-taken (ltb (hex-digit a) 16 && ltb (hex-digit b) 16) (16 * hex-digit a + hex-digit b) v e) in
+    (digit-byte a (omega (arith, ltb-true (hex-digit a) 16 (t .0))), digit-byte b (omega (arith, ltb-true (hex-digit b) 16 (t .1))))
+
+hex-none : (a b : ℕ) → hex (a ∷ b ∷ []) ≡ none → (s t : Bool) → hex (cond s [] (a ∷ cond t [] (b ∷ []))) ≡ none
 unfolding hex
 hex-none a b e true t = refl
 hex-none a b e false true = refl
-hex-none a b e false false = rw e refl
+hex-none a b e false false = e
 
 module _ (a b : ℕ) (r : List ℕ) (ends : first r ≡ []) where
   first-two : first (a ∷ b ∷ r) ≡ cond (eqb a tab) [] (a ∷ cond (eqb b tab) [] (b ∷ []))
   unfolding until
   first-two = rw ends refl
 
-  high : 15 < hex-digit a → hex (first (a ∷ b ∷ r)) ≡ none
-  high l = ap hex first-two ∙ hex-none a b (rw (le-ltb (hex-digit a) 16 l) refl) (eqb a tab) (eqb b tab)
+  neither : hex (a ∷ b ∷ []) ≡ none → hex (first (a ∷ b ∷ r)) ≡ none
+  neither e = ap hex first-two ∙ hex-none a b e (eqb a tab) (eqb b tab)
 
-  low : 15 < hex-digit b → hex (first (a ∷ b ∷ r)) ≡ none
-  low l = ap hex first-two ∙ hex-none a b (rw (le-ltb (hex-digit b) 16 l) (at (ltb (hex-digit a) 16))) (eqb a tab) (eqb b tab)
-    where
-      at : (t : Bool) → (t && false) ≡ false
-      at true = refl
-      at false = refl
+  both : (v : ℕ) → hex (a ∷ b ∷ []) ≡ some v → (hex (first (a ∷ b ∷ r)) ≡ some v) × (length (first (a ∷ b ∷ r)) ≡ 2)
+  both v h =
+      let (m, n) = digit-bytes a b v h in
+      let e : first (a ∷ b ∷ r) ≡ a ∷ b ∷ [] = first-two ∙ rw (ne-eqb a tab (λ e. omega arith), ne-eqb b tab (λ e. omega arith)) refl in
+      (ap hex e ∙ h, ap length e)
 
-  module _ (h k : ℕ) (p : h ≡ hex-digit a) (q : k ≡ hex-digit b) (g : h ≤ 15) (l : k ≤ 15) where
-    both : (hex (first (a ∷ b ∷ r)) ≡ some (16 * h + k)) × (length (first (a ∷ b ∷ r)) ≡ 2)
-    unfolding hex
-    both =
-        let m = digit-byte a (omega arith) in
-        let n = digit-byte b (omega arith) in
-        let e : first (a ∷ b ∷ r) ≡ a ∷ b ∷ [] = first-two ∙ rw (ne-eqb a tab (λ e. omega arith), ne-eqb b tab (λ e. omega arith)) refl in
-        (rw (e, p, q, lt-ltb (hex-digit a) 16 (omega arith), lt-ltb (hex-digit b) 16 (omega arith)) refl, ap length e)
+-- what `hex_field` gave, taken back
+pub hex-some : (o : Option ℕ) (r : HexField) (v : ℕ) → r ≡ hex-read o → r ≡ Hex v → o ≡ some v
+hex-some none r v p q = let w : _≡_ {A = ℕ} 0 1 = cc in absurd (omega arith)
+hex-some (some x) r v p q = cc
+
+pub hex-not : (o : Option ℕ) (r : HexField) → r ≡ hex-read o → r ≡ NoHex → o ≡ none
+hex-not none r p q = refl
+hex-not (some x) r p q = let w : _≡_ {A = ℕ} 0 1 = cc in absurd (omega arith)
 
 -- ---- the first bytes of a text that has so many
 
@@ -139,23 +151,19 @@ module _ (make : ℕ → Input) (s : List ℕ) where
   byte-wrong : hex (first (getD s 0 0 ∷ getD s 1 0 ∷ [])) ≡ none → Unread ≡ reads 2 s (byte-line make (first-line s))
   byte-wrong e = wrong 2 (byte-line make) (hex-length make) 2 s (λ h. ap (byte-line make) (two-bytes s h) ∙ one-unread hex (getD s 0 0 ∷ getD s 1 0 ∷ []) e make)
 
-  pub byte-high : (h : ℕ) → h ≡ hex-digit (getD s 0 0) → 15 < h → Unread ≡ reads 2 s (byte-line make (first-line s))
-  byte-high h p l = byte-wrong (high (getD s 0 0) (getD s 1 0) [] none-there (omega arith))
+  pub byte-none : hex (getD s 0 0 ∷ getD s 1 0 ∷ []) ≡ none → Unread ≡ reads 2 s (byte-line make (first-line s))
+  byte-none e = byte-wrong (neither (getD s 0 0) (getD s 1 0) [] none-there e)
 
-  pub byte-low : (k : ℕ) → k ≡ hex-digit (getD s 1 0) → 15 < k → Unread ≡ reads 2 s (byte-line make (first-line s))
-  byte-low k q l = byte-wrong (low (getD s 0 0) (getD s 1 0) [] none-there (omega arith))
-
-  pub byte-good : 2 < length s → getD s 2 0 ≡ line-feed → (h : ℕ) → h ≡ hex-digit (getD s 0 0) → h ≤ 15 → (k : ℕ) → k ≡ hex-digit (getD s 1 0) → k ≤ 15 → Whole (make (16 * h + k)) 4 ≡ reads 2 s (byte-line make (first-line s))
+  pub byte-good : 2 < length s → getD s 2 0 ≡ line-feed → (v : ℕ) → hex (getD s 0 0 ∷ getD s 1 0 ∷ []) ≡ some v → Whole (make v) 4 ≡ reads 2 s (byte-line make (first-line s))
   unfolding until
-  byte-good long ends h p g k q l =
+  byte-good long ends v h =
       let a = getD s 0 0 in
       let b = getD s 1 0 in
-      let m = digit-byte a (omega arith) in
-      let n = digit-byte b (omega arith) in
-      let r = both a b [] none-there h k p q g l in
+      let (m, n) = digit-bytes a b v h in
+      let r = both a b [] none-there v h in
       right 2 (byte-line make) (hex-length make) 2 s long ends
       (rw (two-bytes s (omega arith), ne-eqb a line-feed (λ e. omega arith), ne-eqb b line-feed (λ e. omega arith)) refl)
-      (make (16 * h + k)) (ap (byte-line make) (two-bytes s (omega arith)) ∙ one-last hex (a ∷ b ∷ []) (16 * h + k) (r .0) (omega (arith, r .1)) make)
+      (make v) (ap (byte-line make) (two-bytes s (omega arith)) ∙ one-last hex (a ∷ b ∷ []) v (r .0) (omega (arith, r .1)) make)
 
 -- ---- two digits, a tab, and down or up
 
@@ -186,33 +194,29 @@ module _ (make : ℕ → Bool → Input) (s : List ℕ) where
     unfolding until
     parted = rw (eq-eqb (getD s 2 0) tab t) refl
 
-    pub key-high : (h : ℕ) → h ≡ hex-digit (getD s 0 0) → 15 < h → Unread ≡ reads 2 s (key-line make (first-line s))
-    key-high h p l = key-wrong (two-unread hex (four s) (high (getD s 0 0) (getD s 1 0) (getD s 2 0 ∷ getD s 3 0 ∷ []) parted (omega arith)) level make)
+    pub key-none : hex (getD s 0 0 ∷ getD s 1 0 ∷ []) ≡ none → Unread ≡ reads 2 s (key-line make (first-line s))
+    key-none e = key-wrong (two-unread hex (four s) (neither (getD s 0 0) (getD s 1 0) (getD s 2 0 ∷ getD s 3 0 ∷ []) parted e) level make)
 
-    pub key-low : (k : ℕ) → k ≡ hex-digit (getD s 1 0) → 15 < k → Unread ≡ reads 2 s (key-line make (first-line s))
-    key-low k q l = key-wrong (two-unread hex (four s) (low (getD s 0 0) (getD s 1 0) (getD s 2 0 ∷ getD s 3 0 ∷ []) parted (omega arith)) level make)
-
-    module _ (h : ℕ) (p : h ≡ hex-digit (getD s 0 0)) (g : h ≤ 15) (k : ℕ) (q : k ≡ hex-digit (getD s 1 0)) (l : k ≤ 15) where
-      last : key-line make (four s) ≡ level-line (make (16 * h + k)) (getD s 3 0 ∷ [])
+    module _ (v : ℕ) (h : hex (getD s 0 0 ∷ getD s 1 0 ∷ []) ≡ some v) where
+      last : key-line make (four s) ≡ level-line (make v) (getD s 3 0 ∷ [])
       last =
-          let r = both (getD s 0 0) (getD s 1 0) (getD s 2 0 ∷ getD s 3 0 ∷ []) parted h k p q g l in
-          two-next hex (four s) (16 * h + k) (r .0) (omega (arith, r .1)) level make ∙ ap (λ (m : ℕ). level-line (make (16 * h + k)) (drop (suc m) (four s))) (r .1)
+          let r = both (getD s 0 0) (getD s 1 0) (getD s 2 0 ∷ getD s 3 0 ∷ []) parted v h in
+          two-next hex (four s) v (r .0) (omega (arith, r .1)) level make ∙ ap (λ (m : ℕ). level-line (make v) (drop (suc m) (four s))) (r .1)
 
       pub key-neither : (getD s 3 0 ≡ code "1" → ⊥) → (getD s 3 0 ≡ code "0" → ⊥) → Unread ≡ reads 2 s (key-line make (first-line s))
-      key-neither d u = key-wrong (last ∙ goes-neither (make (16 * h + k)) (getD s 3 0) d u)
+      key-neither d u = key-wrong (last ∙ goes-neither (make v) (getD s 3 0) d u)
 
       module _ (long : 4 < length s) (ends : getD s 4 0 ≡ line-feed) where
-        key-right : (i : Input) → code "0" ≤ getD s 3 0 → level-line (make (16 * h + k)) (getD s 3 0 ∷ []) ≡ Good i → Whole i 6 ≡ reads 2 s (key-line make (first-line s))
+        key-right : (i : Input) → code "0" ≤ getD s 3 0 → level-line (make v) (getD s 3 0 ∷ []) ≡ Good i → Whole i 6 ≡ reads 2 s (key-line make (first-line s))
         unfolding until
         key-right i d e =
-            let m = digit-byte (getD s 0 0) (omega arith) in
-            let n = digit-byte (getD s 1 0) (omega arith) in
+            let (m, n) = digit-bytes (getD s 0 0) (getD s 1 0) v h in
             right 4 (key-line make) (hex-level-length make) 2 s long ends
             (rw (four-bytes s (omega arith), ne-eqb (getD s 0 0) line-feed (λ e. omega arith), ne-eqb (getD s 1 0) line-feed (λ e. omega arith), ne-eqb (getD s 2 0) line-feed (λ e. omega arith), ne-eqb (getD s 3 0) line-feed (λ e. omega arith)) refl)
             i (ap (key-line make) (four-bytes s (omega arith)) ∙ last ∙ e)
 
-        pub key-down : getD s 3 0 ≡ code "1" → Whole (make (16 * h + k) true) 6 ≡ reads 2 s (key-line make (first-line s))
-        key-down e = key-right (make (16 * h + k) true) (omega arith) (goes-down (make (16 * h + k)) (getD s 3 0) e)
+        pub key-down : getD s 3 0 ≡ code "1" → Whole (make v true) 6 ≡ reads 2 s (key-line make (first-line s))
+        key-down e = key-right (make v true) (omega arith) (goes-down (make v) (getD s 3 0) e)
 
-        pub key-up : getD s 3 0 ≡ code "0" → Whole (make (16 * h + k) false) 6 ≡ reads 2 s (key-line make (first-line s))
-        key-up e = key-right (make (16 * h + k) false) (omega arith) (goes-up (make (16 * h + k)) (getD s 3 0) e)
+        pub key-up : getD s 3 0 ≡ code "0" → Whole (make v false) 6 ≡ reads 2 s (key-line make (first-line s))
+        key-up e = key-right (make v false) (omega arith) (goes-up (make v) (getD s 3 0) e)

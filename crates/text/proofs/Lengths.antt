@@ -2,16 +2,14 @@
 -- Assumes nothing.
 use Prim.Native.Char.{code}
 use Prim.Native.Nat.{ℕ, suc, _+_, _≤_, _<_}
-use native.Mathlib.Decide.{decLt}
 use native.Mathlib.Omega.{arith}
-use mathlib.Core.Path.{_≡_, refl, sym, ap, _∙_}
+use mathlib.Core.Path.{_≡_, refl}
 use mathlib.Core.Bool.{Bool, true, false, cond, _&&_}
 use mathlib.Core.List.{List, [], _∷_}
 use mathlib.Core.Option.{Option, none, some, Option·map, Option·none-ne-some, Option·some-injective}
 use lib.Dec.{eqb, leb}
-use lib.ListN.{length, take, length-take}
+use lib.ListN.{length}
 use lib.IntN.{ℤ, pos, negℤ}
-use lib.Seq.{take-all}
 use borrow.Author.Tests.{leb-true}
 use Rattle.mouse.specs.declared.Side.the-variants.{Left, Right}
 use Rattle.controller.specs.declared.Input.{Input}
@@ -174,11 +172,3 @@ meaning-long ((b ∷ c ∷ f) ∷ fs) h = refl
 pub longer : (l : List ℕ) → longest < length l → line-of l ≡ Bad
 unfolding line-of
 longer l h = meaning-long (fields l) (let w = fields-width l in omega arith)
-
--- so a line may be cut anywhere past the longest
-pub cut : (k : ℕ) (l : List ℕ) → longest < k → line-of (take k l) ≡ line-of l
-cut k l h =
-    elim (decLt k (length l)) [
-      | yes m ↦ longer (take k l) (rw length-take (omega arith)) ∙ sym (longer l (omega arith))
-      | no m ↦ ap line-of (take-all k l (omega arith))
-    ]

@@ -92,6 +92,14 @@ shown-is zero bytes e h = absurd (e refl)
 shown-is (suc n) [] e h = absurd (omega arith)
 shown-is (suc n) (b ∷ bytes) e h = refl
 
+-- how long they are: the minus, or two digits for each byte
+pub shown-one : (n : ℕ) (bytes : List ℕ) → n ≡ 0 → length (shown (take n bytes)) ≡ 1
+unfolding shown
+shown-one n bytes e = rw e
+
+pub shown-two : (n : ℕ) (bytes : List ℕ) → (n ≡ 0 → ⊥) → n ≤ length bytes → length (shown (take n bytes)) ≡ 2 * n
+shown-two n bytes e h = rw (shown-is n bytes e h, hex-length, length-take-le)
+
 pub shown-some : (n r : ℕ) (bytes l X : List ℕ) → (n ≡ 0 → ⊥) → n ≤ length bytes → Wrote (hex-bytes (take n bytes)) r l X → Wrote (shown (take n bytes)) r l X
 shown-some n r bytes l X e h w = rw (shown-is n bytes e h) w
 
@@ -100,13 +108,19 @@ unfolding shown
 shown-most [] = omega arith
 shown-most (b ∷ bytes) = omega (arith, hex-length (b ∷ bytes))
 
-pub shown-room : (n : ℕ) (bytes : List ℕ) → n ≤ length bytes → length (shown (take n bytes)) ≤ 2 * n + 1
-shown-room n bytes h = omega (arith, shown-most (take n bytes), length-take-le n bytes h)
-
 -- an output line has its room
 pub line-most : (number answer : ℕ) (bytes : List ℕ) → number < 2 ^ 64 → length (output-line number answer bytes) ≤ line-room (length bytes)
 unfolding output-line
 line-most number answer bytes h = simp length-append (omega (arith, decimal-most number h, shown-most bytes))
+
+-- it fits where there is room for any line of n bytes
+pub line-fits : (number answer n : ℕ) (bytes : List ℕ) {room : ℕ} → number < 2 ^ 64 → n ≤ length bytes → line-room n ≤ room → length (output-line number answer (take n bytes)) ≤ room
+line-fits number answer n bytes h p r = omega (arith, line-most number answer (take n bytes) h, length-take-le n bytes p)
+
+-- the parts of an output line: number, three bytes, what was written, and a line feed
+pub line-length : (number answer : ℕ) (bytes : List ℕ) → length (output-line number answer bytes) ≡ length (decimal number) + 3 + length (shown bytes) + 1
+unfolding output-line
+line-length number answer bytes = simp length-append (omega arith)
 
 -- a line feed after what was written
 pub line-end : (number answer n : ℕ) (bytes l X : List ℕ) → Wrote ((decimal number ++ (tab ∷ figure answer ∷ tab ∷ [])) ++ shown bytes) n l X → n + 1 ≤ length l → Wrote (output-line number answer bytes) (n + 1) l (set X n (code "\n"))

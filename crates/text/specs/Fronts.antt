@@ -6,11 +6,18 @@ use mathlib.Core.Option.{Option, none, some}
 use lib.Dec.{eqb, ltb}
 use lib.ListN.{length}
 use lib.IntN.{ℤ}
+use Rattle.text.specs.declared.numbers.HexField.{HexField}
+use Rattle.text.specs.declared.numbers.HexField.the-variants.{Hex, NoHex}
 use Rattle.text.specs.declared.numbers.Digits.{Digits}
 use Rattle.text.specs.declared.numbers.Digits.the-variants.{Natural, NoNatural}
 use Rattle.text.specs.declared.numbers.Front.{Front}
 use Rattle.text.specs.declared.numbers.Front.the-variants.{Number, NoNumber}
 use Rattle.text.specs.Line.{tab, natural, number}
+
+-- "Hex is two upper-case digits": the byte that they make, as the code hands it on
+abbrev pub hex-read : Option ℕ → HexField
+hex-read none = NoHex
+hex-read (some v) = Hex v
 
 -- the bytes of a text up to the first one that is `stop`, or all of them
 unfoldable pub until : ℕ → List ℕ → List ℕ

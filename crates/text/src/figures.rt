@@ -81,8 +81,8 @@ fn write_long(n: u64, out: &mut [u8]) -> usize
     count
 }
 
-// Few sessions have a hundred million lines: shorter numbers are written four digits at once.
-pub(crate) fn write_decimal(n: u64, out: &mut [u8]) -> usize
+// A number in decimal. Few sessions have a hundred million lines: shorter numbers are written four digits at once.
+pub fn write_decimal(n: u64, out: &mut [u8]) -> usize
     requires { ⌜ length (decimal n) ≤ length (now out) ⌝ }
     ensures { λ r. ⌜ Wrote (decimal n) r (now (out .entry)) (now (out .exit)) ⌝ }
 {
@@ -125,9 +125,9 @@ fn write_hex(bytes: &[u8], n: usize, out: &mut [u8]) -> usize
     at
 }
 
-// The bytes of an output line, or that there are none.
-pub(crate) fn write_shown(bytes: &[u8], n: usize, out: &mut [u8]) -> usize
-    requires { ⌜ (n ≤ length (now bytes)) × (2 * n ≤ length (now out)) × (1 ≤ length (now out)) ⌝ }
+// The first `n` of `bytes` in hexadecimal, or that there are none.
+pub fn write_shown(bytes: &[u8], n: usize, out: &mut [u8]) -> usize
+    requires { ⌜ (n ≤ length (now bytes)) × (length (shown (take n (now bytes))) ≤ length (now out)) ⌝ }
     ensures { λ r. ⌜ Wrote (shown (take n (now (bytes .entry)))) r (now (out .entry)) (now (out .exit)) ⌝ }
 {
     if n == 0 {

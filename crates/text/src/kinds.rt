@@ -1,14 +1,15 @@
 // The kinds of lines, each by what stands past its first field and the tab: a text that goes on behind the line.
 ghost use mathlib.Core.Path.{_≡_};
-ghost use Prim.Native.Nat.{_+_, _≤_, _<_, _^_};
+ghost use Prim.Native.Nat.{_+_, _<_, _^_};
 ghost use lib.ListN.{length};
 ghost use Rattle.controller.specs.declared.Input.the-variants.{Byte, Key, Button, Move, Joystick, Sample};
 ghost use Rattle.text.specs.Line.{fields, hex, level, number, one-more, two-more, three-more};
 ghost use Rattle.text.specs.Reading.{first-line, reads};
 use crate::Read;
 use crate::numbers::Front;
+use crate::numbers::HexField;
 use crate::numbers::first_number;
-use crate::numbers::hex_digit;
+use crate::numbers::hex_field;
 use controller::Input;
 use mouse::Side;
 
@@ -21,17 +22,12 @@ pub(crate) fn byte_line(s: &[u8]) -> Read
     if s[2] != b'\n' {
         return Read::Unread;
     }
-    let high = hex_digit(s[0]);
-    if 15 < high {
-        return Read::Unread;
-    }
-    let low = hex_digit(s[1]);
-    if 15 < low {
-        return Read::Unread;
-    }
-    Read::Whole {
-        input: Input::Byte(16 * high + low),
-        len: 4,
+    match hex_field(s[0], s[1]) {
+        HexField::Hex(byte) => Read::Whole {
+            input: Input::Byte(byte),
+            len: 4,
+        },
+        HexField::NoHex => Read::Unread,
     }
 }
 
@@ -47,29 +43,25 @@ pub(crate) fn key_line(s: &[u8]) -> Read
     if s[2] != b'\t' {
         return Read::Unread;
     }
-    let high = hex_digit(s[0]);
-    if 15 < high {
-        return Read::Unread;
+    match hex_field(s[0], s[1]) {
+        HexField::Hex(code) => {
+            let last = s[3];
+            if last == b'1' {
+                return Read::Whole {
+                    input: Input::Key { code, down: true },
+                    len: 6,
+                };
+            }
+            if last == b'0' {
+                return Read::Whole {
+                    input: Input::Key { code, down: false },
+                    len: 6,
+                };
+            }
+            Read::Unread
+        }
+        HexField::NoHex => Read::Unread,
     }
-    let low = hex_digit(s[1]);
-    if 15 < low {
-        return Read::Unread;
-    }
-    let code = 16 * high + low;
-    let last = s[3];
-    if last == b'1' {
-        return Read::Whole {
-            input: Input::Key { code, down: true },
-            len: 6,
-        };
-    }
-    if last == b'0' {
-        return Read::Whole {
-            input: Input::Key { code, down: false },
-            len: 6,
-        };
-    }
-    Read::Unread
 }
 
 pub(crate) fn button_line(side: Side, s: &[u8]) -> Read

@@ -13,6 +13,10 @@ mod figures;
 mod kinds;
 mod numbers;
 
+pub use figures::write_decimal;
+pub use figures::write_shown;
+pub use numbers::hex_digit;
+
 // What is read at the front of a text: a good line, of `len` bytes and the line feed that ends it, or none. Whoever is told that there
 // is none looks for the line feed: the line is bad where there is one, and has not ended where there is none.
 pub enum Read {
@@ -36,7 +40,7 @@ pub const LINE_REST: usize = 25;
 
 // Room for the output line of `n` bytes.
 pub fn line_room(n: usize) -> usize
-    requires { ⌜ n < 2 ^ 62 ⌝ }
+    requires { ⌜ line-room n < 2 ^ 64 ⌝ }
     ensures { λ r. ⌜ r ≡ line-room n ⌝ }
 {
     2 * n + LINE_REST
@@ -85,12 +89,12 @@ pub fn write_header(out: &mut [u8]) -> usize
 
 // The output line for the input line with this number: the answer, and the first `n` of `bytes`.
 pub fn write_line(number: u64, answer: u8, bytes: &[u8], n: usize, out: &mut [u8]) -> usize
-    requires { ⌜ (answer ≤ 9) × (n ≤ length (now bytes)) × (line-room n ≤ length (now out)) ⌝ }
+    requires { ⌜ (answer ≤ 9) × (n ≤ length (now bytes)) × (length (output-line number answer (take n (now bytes))) ≤ length (now out)) ⌝ }
     ensures { λ r. ⌜ Wrote (output-line number answer (take n (now (bytes .entry)))) r (now (out .entry)) (now (out .exit)) ⌝ }
 {
-    let mut at = figures::write_decimal(number, out);
+    let mut at = write_decimal(number, out);
     at += output::put3(b'\t', b'0' + answer, b'\t', &mut out[at..]);
-    at += figures::write_shown(bytes, n, &mut out[at..]);
+    at += write_shown(bytes, n, &mut out[at..]);
     out[at] = b'\n';
     at + 1
 }

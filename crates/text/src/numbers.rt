@@ -1,8 +1,15 @@
 // Numbers in a line: hexadecimal digits, and the number that is the first field of a text, up to the tab or the line feed that ends it.
 ghost use Prim.Native.Nat.{_<_};
 ghost use mathlib.Core.Path.{_≡_};
-ghost use Rattle.text.specs.Line.{hex-digit, minus};
-ghost use Rattle.text.specs.Fronts.{digits-of, front-of};
+ghost use mathlib.Core.List.{_∷_, []};
+ghost use Rattle.text.specs.Line.{hex-digit, hex, minus};
+ghost use Rattle.text.specs.Fronts.{hex-read, digits-of, front-of};
+
+// The byte that two hexadecimal digits make.
+pub enum HexField {
+    Hex(u8),
+    NoHex,
+}
 
 // The digits that are the first field of a text: the number that they make, and the field's length.
 pub enum Digits {
@@ -17,7 +24,7 @@ pub enum Front {
 }
 
 // The value of an upper-case digit; 16 for any other byte.
-pub(crate) fn hex_digit(b: u8) -> u8
+pub fn hex_digit(b: u8) -> u8
     ensures { λ r. ⌜ r ≡ hex-digit b ⌝ }
 {
     if b < b'0' {
@@ -33,6 +40,20 @@ pub(crate) fn hex_digit(b: u8) -> u8
         return b - b'A' + 10;
     }
     16
+}
+
+pub(crate) fn hex_field(a: u8, b: u8) -> HexField
+    ensures { λ r. ⌜ r ≡ hex-read (hex (a ∷ b ∷ [])) ⌝ }
+{
+    let high = hex_digit(a);
+    if 15 < high {
+        return HexField::NoHex;
+    }
+    let low = hex_digit(b);
+    if 15 < low {
+        return HexField::NoHex;
+    }
+    HexField::Hex(16 * high + low)
 }
 
 // The digits up to `stop`, at which the field ends. The first byte is tested by itself, so that the loop need not ask whether there

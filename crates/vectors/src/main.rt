@@ -1,10 +1,11 @@
 // Plays sessions with buffers of any length. A line `=`, a tab and a number begins a session from power-up in which that many bytes
-// are lent with every input; it is printed as it stands. For any other line its number in the session, the answer and the bytes are
-// printed, as the text program prints them.
+// are lent with every input; it is printed as it stands. A line `?`, a tab and a word asks for something that no input tells, and
+// changes nothing: `queue` for the bytes that wait. For any other line its number in the session, the answer and the bytes are printed,
+// as the text program prints them.
 ghost use mathlib.Core.Path.{_≡_};
 ghost use Prim.Native.Nat.{_+_, _≤_, _<_, _^_};
 ghost use lib.ListN.{length};
-ghost use Rattle.controller.specs.State.{IsState};
+ghost use Rattle.controller.specs.State.{IsState, queue-room};
 ghost use Rattle.text.specs.Reading.{first-line};
 ghost use Rattle.text.specs.Output.{line-room};
 use controller::State;
@@ -93,6 +94,28 @@ fn number_in(line: &[u8]) -> usize {
     value
 }
 
+// Whether a line is `?`, a tab and this word.
+fn is_question(line: &[u8], word: &[u8]) -> bool {
+    let n = word.len();
+    if line.len() != n + 2 {
+        return false;
+    }
+    if line[0] != b'?' {
+        return false;
+    }
+    if line[1] != b'\t' {
+        return false;
+    }
+    let mut i = 0;
+    while i < n {
+        if line[i + 2] != word[i] {
+            return false;
+        }
+        i += 1;
+    }
+    true
+}
+
 fn smaller(a: usize, b: usize) -> usize
     ensures { λ r. ⌜ r ≤ b ⌝ }
 {
@@ -104,7 +127,7 @@ fn print(session: Session, text: &[u8], n: usize, lent: &mut [u8], out: &mut [u8
     requires { ⌜ (n ≡ length (first-line (now text))) × (n < length (now text)) ⌝ }
     requires { ⌜ IsState (session .state) ⌝ }
     requires { ⌜ session .number + 1 < 2 ^ 64 ⌝ }
-    requires { ⌜ line-room (length (now lent)) ≤ length (now out) ⌝ }
+    requires { ⌜ (queue-room ≤ length (now lent)) × (line-room (length (now lent)) ≤ length (now out)) ⌝ }
     ensures { λ r. ⌜ IsState (r .session .state) ⌝ }
     ensures { λ r. ⌜ r .session .number ≤ session .number + 1 ⌝ }
     ensures { λ r. ⌜ r .count ≤ length (now (out .entry)) ⌝ }
@@ -120,8 +143,19 @@ fn print(session: Session, text: &[u8], n: usize, lent: &mut [u8], out: &mut [u8
             };
         }
     }
-    let room = smaller(session.lent, lent.len());
     let before = session.state;
+    if is_question(line, b"queue") {
+        let count = session::tell_queue(before, session.number, out);
+        return Printed {
+            session: Session {
+                state: before,
+                number: session.number + 1,
+                lent: session.lent,
+            },
+            count: count,
+        };
+    }
+    let room = smaller(session.lent, lent.len());
     let played = session::play(before, session.number, text, &mut lent[..room], out);
     let after = played.state;
     Printed {
@@ -138,7 +172,7 @@ fn print(session: Session, text: &[u8], n: usize, lent: &mut [u8], out: &mut [u8
 fn answer(session: Session, block: &[u8], lent: &mut [u8], out: &mut [u8]) -> Answered
     requires { ⌜ IsState (session .state) ⌝ }
     requires { ⌜ session .number + length (now block) < 2 ^ 64 ⌝ }
-    requires { ⌜ line-room (length (now lent)) ≤ length (now out) ⌝ }
+    requires { ⌜ (queue-room ≤ length (now lent)) × (line-room (length (now lent)) ≤ length (now out)) ⌝ }
     ensures { λ r. ⌜ IsState (r .session .state) ⌝ }
     ensures { λ r. ⌜ r .session .number ≤ session .number + r .used ⌝ }
     ensures { λ r. ⌜ r .used ≤ length (now (block .entry)) ⌝ }
@@ -186,7 +220,7 @@ fn read_on(kept: usize, block: &mut [u8]) -> usize
 // The lines of all sessions, block by block.
 fn run(block: &mut [u8], lent: &mut [u8], out: &mut [u8])
     requires { ⌜ length (now block) ≡ 65536 ⌝ }
-    requires { ⌜ line-room (length (now lent)) ≤ length (now out) ⌝ }
+    requires { ⌜ (queue-room ≤ length (now lent)) × (line-room (length (now lent)) ≤ length (now out)) ⌝ }
 {
     let mut session = power_up(lent.len());
     let mut kept = 0;

@@ -35,11 +35,10 @@ pub enum Input {
 pub enum Refusal {
     /// "an event's number is outside its range"
     OutOfRange = 1,
-    /// "paused, and the bytes to be queued do not fit whole in the 128-byte
-    /// queue"
+    /// "paused, and the bytes to be queued do not fit whole in the [...] queue"
     QueueFull = 2,
     /// "paused, mouse live in relative or keycode mode, and held motion on an
-    /// axis would leave -2,032 to 2,032"
+    /// axis would leave" its limits
     MotionFull = 3,
     /// "the bytes due now are more than the lent buffer's length"
     NoRoom = 4,

@@ -3,14 +3,15 @@
 use std::fmt;
 
 use crate::controller::Input;
-use crate::program::{session_head, Format, Player, BUFFER};
+use crate::limits::BUFFER;
+use crate::program::{session_head, Format, Player};
 use crate::rules::Rules;
 use crate::state::{JoystickMode, MouseMode, Role, State};
 use crate::text::parse;
 
 const MOUSE_MODES: [&str; 3] = ["relative", "absolute", "keycode"];
 const JOYSTICK_MODES: [&str; 5] = ["event", "interrogation", "monitoring", "fire", "keycode"];
-const KINDS: [&str; 8] = [
+const KINDS: [&str; 9] = [
     "host byte",
     "key",
     "button",
@@ -19,6 +20,7 @@ const KINDS: [&str; 8] = [
     "sample",
     "tick",
     "bad line",
+    "question",
 ];
 
 pub struct Coverage {
@@ -29,7 +31,7 @@ pub struct Coverage {
     /// By port 0's role, the mouse off or on, and joysticks off or on.
     pub roles: [[[u64; 2]; 2]; 2],
     /// By kind of line and answer number.
-    pub kinds: [[u64; 10]; 8],
+    pub kinds: [[u64; 10]; 9],
     /// By code: taken last bytes of commands, not paused, and paused.
     pub commands: [[u64; 2]; 256],
     /// By code: how many of the paused ones ended the pause.
@@ -44,12 +46,12 @@ impl Coverage {
             answers: [0; 10],
             pairs: [[[0; 2]; 5]; 3],
             roles: [[[0; 2]; 2]; 2],
-            kinds: [[0; 10]; 8],
+            kinds: [[0; 10]; 9],
             commands: [[0; 2]; 256],
             resumes: [0; 256],
             longest: 0,
         };
-        let mut player = Player::new(Rules::DOCUMENT, BUFFER);
+        let mut player = Player::new(format, Rules::DOCUMENT, BUFFER);
         for line in session.split_inclusive(|&byte| byte == b'\n') {
             let line = line.strip_suffix(b"\n").unwrap_or(line);
             match session_head(line) {
@@ -70,7 +72,7 @@ impl Coverage {
         self.answers[answer] += 1;
         self.pairs[mouse][sticks][usize::from(before.paused)] += 1;
         self.roles[role][usize::from(before.mouse.on)][usize::from(before.joysticks.on)] += 1;
-        self.kinds[kind_number(input)][answer] += 1;
+        self.kinds[kind_number(input, answer)][answer] += 1;
         self.longest = self.longest.max(player.written());
         if let (Some(Input::Host(byte)), 0) = (input, answer) {
             self.count_command(&before, &player.state, byte);
@@ -106,7 +108,7 @@ fn mode_numbers(state: &State) -> (usize, usize) {
     (mouse, sticks)
 }
 
-fn kind_number(input: Option<Input>) -> usize {
+fn kind_number(input: Option<Input>, answer: usize) -> usize {
     match input {
         Some(Input::Host(_)) => 0,
         Some(Input::Key { .. }) => 1,
@@ -115,7 +117,8 @@ fn kind_number(input: Option<Input>) -> usize {
         Some(Input::Stick { .. }) => 4,
         Some(Input::Sample(_)) => 5,
         Some(Input::Tick) => 6,
-        None => 7,
+        None if answer > 0 => 7,
+        None => 8,
     }
 }
 

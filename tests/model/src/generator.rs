@@ -4,6 +4,7 @@
 //! such as a pause with events and a command that resumes; the weights see to
 //! it that a long session visits every mode and meets every answer.
 
+use crate::limits::{BUFFER, HELD_LIMIT, QUEUE_ROOM};
 use crate::program::Format;
 
 /// Splitmix64: small, and the same everywhere.
@@ -262,6 +263,35 @@ const BAD_LINES: &[&str] = &[
     "\u{e9}\t1",
 ];
 
+const QUESTION: &str = "?\tqueue";
+
+/// Lines that begin as a question and are none.
+const BAD_QUESTIONS: &[&str] = &[
+    "?",
+    "?\t",
+    "? ",
+    "??",
+    "?\tQueue",
+    "?\tQUEUE",
+    "?\tqueue\t",
+    "?\tqueue ",
+    "?\tqueue\r",
+    "?\tqueue\0",
+    "?\tqueue\tqueue",
+    "?\tqueues",
+    "?\tqueu",
+    "?\tueue",
+    "?\t queue",
+    "?\t\tqueue",
+    "?queue",
+    "? queue",
+    "??\tqueue",
+    "?\t?",
+    "?\t1E",
+    "?\tB\t13",
+    "?\tno question has a word as long as this one is",
+];
+
 const MONTH_ENDS: &[[u8; 2]] = &[
     [0x01, 0x31],
     [0x02, 0x28],
@@ -278,6 +308,12 @@ const MONTH_ENDS: &[[u8; 2]] = &[
 const YEARS: &[u8] = &[0x00, 0x01, 0x03, 0x04, 0x10, 0x12, 0x84, 0x85, 0x96, 0x99];
 
 const DOWN_THEN_UP: [bool; 2] = [true, false];
+
+/// The queue's room, to count lines with.
+const ROOM: i32 = QUEUE_ROOM as i32;
+/// How many motions of 64 may be held, and what is left of the limit then.
+const WHOLE_MOTIONS: i32 = HELD_LIMIT / 64;
+const LAST_MOTION: i32 = HELD_LIMIT % 64;
 
 struct Generator {
     random: Random,
@@ -317,13 +353,20 @@ impl Generator {
     /// A head with a buffer length, then a few scenes.
     fn short_session(&mut self) {
         let lent = match self.random.below(8) {
-            0 => 8263,
-            1 => 8264,
-            2 => self.random.between(0, 2),
-            _ => self.random.between(0, 20),
+            0 => BUFFER - 1,
+            1 => BUFFER,
+            2 => self.random.below(3) as usize,
+            _ => self.random.below(21) as usize,
         };
         self.line(&format!("=\t{lent}"));
-        let longest = if self.random.one_in(6) { 300 } else { 50 };
+        if lent + 1 >= BUFFER && self.random.one_in(40) {
+            self.longest_resume();
+        }
+        // Some have lines enough to fill the queue twice; the more, the rarer.
+        let longest = match self.random.one_in(QUEUE_ROOM as u64 / 20) {
+            true => 2 * QUEUE_ROOM as u64 + 44,
+            false => 50,
+        };
         let length = 3 + self.random.below(longest) as usize;
         let rest = self.left.saturating_sub(length);
         self.left -= rest;
@@ -334,6 +377,19 @@ impl Generator {
     }
 
     // Single lines.
+
+    /// Asks what waits in the queue, once in `count` times, and now and then
+    /// badly. The text program has no questions.
+    fn ask(&mut self, count: u64) {
+        if self.format == Format::Text || !self.random.one_in(count) {
+            return;
+        }
+        let line = match self.random.below(12) {
+            0 => self.random.pick(BAD_QUESTIONS),
+            _ => QUESTION,
+        };
+        self.line(line);
+    }
 
     fn host(&mut self, byte: u8) {
         self.line(&format!("B\t{byte:02X}"));
@@ -463,6 +519,7 @@ impl Generator {
                 self.sample_line(bit);
             }
         }
+        self.ask(12);
     }
 
     fn event(&mut self) {
@@ -476,6 +533,7 @@ impl Generator {
             87..=90 => self.sample(),
             _ => self.tick(),
         }
+        self.ask(40);
     }
 
     // Commands.
@@ -606,6 +664,9 @@ impl Generator {
             }
             self.host(parameter);
         }
+        if code == 0x80 {
+            self.ask(2);
+        }
     }
 
     /// A command with these parameters.
@@ -700,6 +761,7 @@ impl Generator {
         self.host(0x13);
         for _ in 0..=self.random.below(14) {
             self.event();
+            self.ask(8);
             if self.random.one_in(14) {
                 let code = self
                     .random
@@ -710,8 +772,10 @@ impl Generator {
         if self.random.one_in(5) {
             self.retry();
         } else {
+            self.ask(3);
             self.resume();
         }
+        self.ask(3);
         if self.random.one_in(2) {
             self.observe();
         }
@@ -725,7 +789,10 @@ impl Generator {
             1 => self.random.pick(&[0x16, 0x1C]),
             _ => self.random.pick(INQUIRIES),
         };
-        self.exactly(&[code, 0x11, code]);
+        for code in [code, 0x11, code] {
+            self.host(code);
+            self.ask(3);
+        }
     }
 
     /// Enough paused bytes to fill the queue, in a mode that queues them.
@@ -738,7 +805,7 @@ impl Generator {
         }
         self.host(0x13);
         let other = self.random.pick(&[2, 4, 8, 60]);
-        for _ in 0..self.random.between(110, 128) {
+        for _ in 0..self.random.between(ROOM - 18, ROOM) {
             match self.random.below(other) {
                 0 => self.queued_event(),
                 _ => self.key(),
@@ -746,8 +813,10 @@ impl Generator {
         }
         for _ in 0..self.random.between(4, 16) {
             self.queued_event();
+            self.ask(6);
         }
         self.resume();
+        self.ask(2);
         self.events();
     }
 
@@ -756,21 +825,25 @@ impl Generator {
         if self.random.one_in(2) {
             self.command(0x09);
             self.exactly(&[0x07, 0x03, 0x13]);
-            for number in 0..self.random.between(19, 22) {
+            let reports = ROOM / 6; // of six bytes each
+            for number in 0..self.random.between(reports - 2, reports + 1) {
                 let button = self.random.pick(&['L', 'L', 'R']);
                 self.button_line(button, number % 2 == 0);
             }
         } else {
             self.command(0x19);
             self.host(0x13);
-            for number in 0..self.random.between(23, 26) {
+            let moves = ROOM / 5; // of two pairs and a trigger each
+            for number in 0..self.random.between(moves - 2, moves + 1) {
                 self.stick_line(0, if number % 2 == 0 { 9 } else { 6 }, (number + 1) % 2);
             }
         }
         for _ in 0..self.random.between(2, 8) {
             self.queued_event();
+            self.ask(6);
         }
         self.resume();
+        self.ask(2);
     }
 
     fn queued_event(&mut self) {
@@ -808,11 +881,11 @@ impl Generator {
             (-64, 64),
             (64, -64),
         ]);
-        for _ in 0..31 {
+        for _ in 0..WHOLE_MOTIONS {
             self.motion_line(dx, dy);
         }
         let (near, far) = (dx.signum(), dy.signum());
-        self.motion_line(48 * near, 48 * far);
+        self.motion_line(LAST_MOTION * near, LAST_MOTION * far);
         for _ in 0..=self.random.below(6) {
             match self.random.below(5) {
                 0 => self.motion_line(near, 0),
@@ -821,6 +894,7 @@ impl Generator {
                 3 => self.motion_line(near, far),
                 _ => self.event(),
             }
+            self.ask(12);
         }
         self.resume();
         self.motion_line(0, 0);
@@ -829,16 +903,19 @@ impl Generator {
     /// The most bytes that are ever due at once, and near it.
     fn longest_resume(&mut self) {
         self.exactly(&[0x0A, 0x01, 0x01, 0x13]);
-        for _ in 0..self.random.between(127, 129) {
+        for _ in 0..self.random.between(ROOM - 1, ROOM + 1) {
             self.key();
         }
-        let (across, along) = (self.random.pick(&[64, -64]), self.random.pick(&[64, -64]));
-        for _ in 0..31 {
-            self.motion_line(across, along);
+        let (across, along) = (self.random.pick(&[1, -1]), self.random.pick(&[1, -1]));
+        for _ in 0..WHOLE_MOTIONS {
+            self.motion_line(64 * across, 64 * along);
         }
-        self.motion_line(across / 4 * 3, along / 4 * 3);
+        self.motion_line(LAST_MOTION * across, LAST_MOTION * along);
+        self.ask(2);
         self.host(0x88);
+        self.ask(2);
         self.host(0x11);
+        self.ask(2);
     }
 
     /// Joystick keycode mode with short times.
@@ -1046,7 +1123,12 @@ impl Generator {
                 self.raw_line(&one_line(line));
             }
             3..=7 => self.spoiled_line(),
-            8 if self.format == Format::Text => self.line("=\t8264"),
+            8 if self.format == Format::Text => self.line(&format!("=\t{BUFFER}")),
+            9 if self.format == Format::Text => self.line(QUESTION),
+            10 => {
+                let line = self.random.pick(BAD_QUESTIONS);
+                self.line(line);
+            }
             _ => {
                 let line = self.random.pick(BAD_LINES);
                 self.line(line);
@@ -1083,6 +1165,7 @@ impl Generator {
             "S\t1\t15\t0",
             "F\t1",
             "T",
+            QUESTION,
         ];
         let mut line = self.random.pick(GOOD).as_bytes().to_vec();
         let place = self.random.below(line.len() as u64) as usize;

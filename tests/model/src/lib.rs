@@ -3,8 +3,8 @@
 //!
 //! `controller::step` takes one input in a state; `text` reads and writes the
 //! lines of the text program. The rest serves the comparison with another
-//! program: sessions made at random, those that the papers state, and those for
-//! sentences of document 01.
+//! program: sessions made at random, those that the papers state, those for
+//! sentences of document 01, and questions about the state.
 
 pub mod clock;
 pub mod command;
@@ -12,9 +12,11 @@ pub mod controller;
 pub mod coverage;
 pub mod generator;
 pub mod joysticks;
+pub mod limits;
 pub mod mouse;
 pub mod papers;
 pub mod program;
+pub mod question;
 pub mod rules;
 pub mod state;
 pub mod text;

@@ -1,15 +1,18 @@
 //! The sessions that the papers state, with the outputs that they state; and
-//! sessions for sentences of document 01, with outputs worked out by hand.
+//! sessions for sentences of document 01 and for questions, with outputs worked
+//! out by hand.
 //!
 //! Sessions are written on one line: `;` parts lines, a space stands for a tab,
 //! bare hex bytes are B lines, `*n` repeats what stands before it. Nothing
 //! after the last `;` is no line. Outputs are `line:bytes` for the lines that
-//! wrote any and `line:(n)` for an answer n that is not 0.
+//! wrote any and `line:(n)` for an answer n that is not 0; `1E*n+1F` is a byte n
+//! times and then another. `{room}` is the queue's room, `{room+2}` two more.
 
-use crate::program::BUFFER;
+use crate::limits::{BUFFER, QUEUE_ROOM};
 
 const PAPERS: &str = include_str!("papers.txt");
 const SENTENCES: &str = include_str!("sentences.txt");
+const QUESTIONS: &str = include_str!("questions.txt");
 
 /// A session and what each of its lines gives.
 #[derive(Clone, Debug, PartialEq, Eq)]
@@ -64,8 +67,30 @@ pub fn sentences() -> Vec<Paper> {
     table(SENTENCES)
 }
 
+/// Every session for a question.
+pub fn questions() -> Vec<Paper> {
+    table(QUESTIONS)
+}
+
 fn table(text: &str) -> Vec<Paper> {
-    text.split("\n\n").map(paper).collect()
+    with_room(text).split("\n\n").map(paper).collect()
+}
+
+/// The text with numbers in place of `{room}`, `{room+2}` and `{room-2}`.
+fn with_room(text: &str) -> String {
+    let mut parts = text.split('{');
+    let mut whole = parts.next().unwrap_or_default().to_string();
+    for part in parts {
+        let (name, rest) = part.split_once('}').expect("a brace that closes");
+        let more = name.strip_prefix("room").expect("the queue's room");
+        let more: isize = match more {
+            "" => 0,
+            more => more.parse().expect("a number with its sign"),
+        };
+        whole += &QUEUE_ROOM.saturating_add_signed(more).to_string();
+        whole += rest;
+    }
+    whole
 }
 
 /// A title, perhaps a buffer's length, a session and an output, a line each.
@@ -139,7 +164,14 @@ fn given_output(given: &str) -> Output {
         },
         None => Output {
             answer: 0,
-            bytes: given.into(),
+            bytes: given.split('+').map(repeated).collect(),
         },
+    }
+}
+
+fn repeated(bytes: &str) -> String {
+    match bytes.split_once('*') {
+        Some((byte, times)) => byte.repeat(times.parse().expect("a number of times")),
+        None => bytes.into(),
     }
 }

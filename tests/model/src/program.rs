@@ -3,12 +3,11 @@
 use std::io::{self, BufRead, Read, Write};
 
 use crate::controller::{answer_number, step};
+use crate::limits::BUFFER;
+use crate::question::tell;
 use crate::rules::Rules;
 use crate::state::State;
 use crate::text::{parse, push_line, BAD_LINE, HEADER, LONGEST_LINE};
-
-/// "Its buffer is 8,264 bytes."
-pub const BUFFER: usize = 8264;
 
 const BLOCK: usize = 1 << 18;
 
@@ -17,12 +16,13 @@ const BLOCK: usize = 1 << 18;
 pub enum Format {
     /// One session, as document 01 has it.
     Text,
-    /// Sessions, each headed by a line `=` TAB LENGTH.
+    /// Sessions, each headed by a line `=` TAB LENGTH, with questions.
     Vectors,
 }
 
 /// Plays one session, line by line.
 pub struct Player {
+    format: Format,
     pub state: State,
     pub lent: usize,
     number: u64,
@@ -30,8 +30,9 @@ pub struct Player {
 }
 
 impl Player {
-    pub fn new(rules: Rules, lent: usize) -> Player {
+    pub fn new(format: Format, rules: Rules, lent: usize) -> Player {
         Player {
+            format,
             state: State::power_up(rules),
             lent,
             number: 0,
@@ -46,7 +47,7 @@ impl Player {
         self.number = 0;
     }
 
-    /// How many bytes the last line wrote.
+    /// How many bytes the last line wrote, or told.
     pub fn written(&self) -> usize {
         self.bytes.len()
     }
@@ -54,15 +55,19 @@ impl Player {
     /// Plays a line and adds its output line to `out`. Gives the answer.
     pub fn play(&mut self, line: &[u8], out: &mut Vec<u8>) -> u8 {
         self.number += 1;
+        self.bytes.clear();
         let answer = match parse(line) {
             Some(input) => answer_number(step(&mut self.state, input, self.lent, &mut self.bytes)),
-            None => {
-                self.bytes.clear();
-                BAD_LINE
-            }
+            None if self.answers(line) => 0,
+            None => BAD_LINE,
         };
         push_line(self.number, answer, &self.bytes, out);
         answer
+    }
+
+    /// Answers a question; false if `line` is none.
+    fn answers(&mut self, line: &[u8]) -> bool {
+        self.format == Format::Vectors && tell(line, &self.state, &mut self.bytes)
     }
 }
 
@@ -79,7 +84,7 @@ pub fn session_head(line: &[u8]) -> Option<usize> {
 /// A read that fails ends the input there.
 pub fn run(input: &mut dyn Read, output: &mut dyn Write, format: Format) -> io::Result<()> {
     let mut reader = io::BufReader::with_capacity(BLOCK, input);
-    let mut player = Player::new(Rules::from_environment(), BUFFER);
+    let mut player = Player::new(format, Rules::from_environment(), BUFFER);
     let mut line = Vec::with_capacity(LONGEST_LINE);
     let mut out = Vec::with_capacity(2 * BLOCK);
     if format == Format::Text {

@@ -2,6 +2,8 @@
 //! A comparison that finds no difference is worth something only if it finds
 //! these.
 
+use crate::limits::{HELD_LIMIT, QUEUE_ROOM};
+
 /// The numbers by which a state is stepped.
 #[derive(Clone, Copy, Debug, PartialEq, Eq)]
 pub struct Rules {
@@ -10,11 +12,11 @@ pub struct Rules {
     pub past_threshold: i32,
     /// "a break is the make plus 0x80"
     pub break_bit: u8,
-    /// "the 128-byte queue"
+    /// How many bytes the queue takes.
     pub queue_limit: usize,
     /// "February has 29 days when the year divides by 4."
     pub leap_day: u8,
-    /// "would leave -2,032 to 2,032"
+    /// How far held motion may go either way.
     pub held_limit: i32,
 }
 
@@ -23,9 +25,9 @@ impl Rules {
     pub const DOCUMENT: Rules = Rules {
         past_threshold: 0,
         break_bit: 0x80,
-        queue_limit: 128,
+        queue_limit: QUEUE_ROOM,
         leap_day: 29,
-        held_limit: 2032,
+        held_limit: HELD_LIMIT,
     };
 
     /// Variant `number`, wrong in one place; any other number is the document.
@@ -34,9 +36,9 @@ impl Rules {
         match number {
             1 => rules.past_threshold = 1,
             2 => rules.break_bit = 0,
-            3 => rules.queue_limit = 127,
+            3 => rules.queue_limit = QUEUE_ROOM - 1,
             4 => rules.leap_day = 28,
-            5 => rules.held_limit = 2031,
+            5 => rules.held_limit = HELD_LIMIT - 1,
             _ => {}
         }
         rules

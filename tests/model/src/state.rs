@@ -3,6 +3,7 @@
 use crate::clock::Clock;
 use crate::command::Command;
 use crate::joysticks::Joysticks;
+use crate::limits::QUEUE_ROOM;
 use crate::mouse::Mouse;
 use crate::rules::Rules;
 
@@ -56,16 +57,16 @@ pub enum Role {
     Joystick,
 }
 
-/// The bytes that wait for a resume, at most 128 of them.
+/// The bytes that wait for a resume, at most `QUEUE_ROOM` of them.
 #[derive(Clone, Copy, Debug)]
 pub struct Queue {
-    bytes: [u8; 128],
+    bytes: [u8; QUEUE_ROOM],
     length: usize,
 }
 
 impl Queue {
     pub const EMPTY: Queue = Queue {
-        bytes: [0; 128],
+        bytes: [0; QUEUE_ROOM],
         length: 0,
     };
 

@@ -1,15 +1,16 @@
 //! Sessions with the length of their buffer, and their expected outputs: those
 //! of the papers, resumes with every length of buffer, bad input in every mode,
-//! and sentences of document 01.
+//! sentences of document 01, and questions.
 
-use crate::papers::{lines, papers, sentences, Paper};
-use crate::program::Player;
+use crate::limits::{BUFFER, HELD_LIMIT, QUEUE_ROOM};
+use crate::papers::{lines, papers, questions, sentences, Paper};
+use crate::program::{Format, Player};
 use crate::rules::Rules;
 
 /// Sessions of one kind, in order.
 pub struct Group {
     /// What they are, in plain words.
-    pub about: &'static str,
+    pub about: String,
     pub sessions: Vec<Session>,
 }
 
@@ -33,11 +34,6 @@ queue (3 bytes), two packets (6) and the reply (8): 17 bytes, so a shorter \
 buffer gives 4. Then 11: if 88 was refused, its 9 bytes are due, and a buffer \
 of less than 9 gives 4 again. Last a key, which goes out unless still paused.";
 
-const LONGEST_RESUME: &str = "\
-The most that is ever due: mouse keycode mode with deltas 1, paused, 128 keys, \
-motion held to 2,032 on both axes, then 88: 8,264 bytes. One byte less of \
-buffer gives 4, and 11 then writes the 8,256 bytes before the reply.";
-
 const BAD_INPUT: &str = "\
 Bad input, in each mouse mode with each joystick mode, not paused and paused. \
 Each number of each event is put outside its range, and gives 1. Before it \
@@ -54,22 +50,29 @@ held motion by 0x12, coordinates by 0x08 and 0x0A, repeat counts by 0x14, 0x15, 
 0x17 and 0x18, ticks and samples by leaving a monitoring mode. There the model's \
 own tests look at the state.";
 
+const QUESTIONS: &str = "\
+Questions. Every output line is worked out by hand.";
+
 /// All sessions.
 pub fn groups() -> Vec<Group> {
     vec![
         group(FROM_PAPERS, papers()),
         group(SHORT_BUFFERS, (0..=20).map(short_buffer).collect()),
-        group(LONGEST_RESUME, [8264, 8263].map(longest_resume).to_vec()),
+        group(
+            &about_longest_resume(),
+            [BUFFER, BUFFER - 1].map(longest_resume).to_vec(),
+        ),
         Group {
-            about: BAD_INPUT,
+            about: BAD_INPUT.into(),
             sessions: bad_input(),
         },
         group(SENTENCES, sentences()),
+        group(QUESTIONS, questions()),
     ]
 }
 
 /// Sessions whose whole output is stated.
-fn group(about: &'static str, papers: Vec<Paper>) -> Group {
+fn group(about: &str, papers: Vec<Paper>) -> Group {
     let sessions = papers.into_iter().map(|paper| Session {
         output: paper.output_text(),
         title: paper.title,
@@ -77,14 +80,14 @@ fn group(about: &'static str, papers: Vec<Paper>) -> Group {
         lines: paper.lines,
     });
     Group {
-        about,
+        about: about.into(),
         sessions: sessions.collect(),
     }
 }
 
 /// The output of the model for a session.
 pub fn played(lent: usize, lines: &[String]) -> String {
-    let mut player = Player::new(Rules::DOCUMENT, lent);
+    let mut player = Player::new(Format::Vectors, Rules::DOCUMENT, lent);
     let mut out = Vec::new();
     for line in lines {
         player.play(line.as_bytes(), &mut out);
@@ -102,15 +105,36 @@ fn short_buffer(lent: usize) -> Paper {
     Paper::new(&format!("buffer {lent}"), lent, session, output)
 }
 
+fn about_longest_resume() -> String {
+    format!(
+        "The most that is ever due: mouse keycode mode with deltas 1, paused, {QUEUE_ROOM} keys, \
+         motion held to {} on both axes, then 88: {} bytes. One byte less of \
+         buffer gives 4, and 11 then writes the {} bytes before the reply.",
+        with_comma(HELD_LIMIT as usize),
+        with_comma(BUFFER),
+        with_comma(BUFFER - 8),
+    )
+}
+
+/// A number of four to six digits as the papers write it.
+fn with_comma(number: usize) -> String {
+    format!("{},{:03}", number / 1000, number % 1000)
+}
+
 fn longest_resume(lent: usize) -> Paper {
-    let session = "0A 01 01; 13; K 1E 1 *128; M 64 64 *31; M 48 48; 88; 11";
-    let resumed = ["1E".repeat(128), "4DCD".repeat(2032), "50D0".repeat(2032)].concat();
-    let output = if lent < 8264 {
-        format!("165:(4) 166:{resumed}")
+    let (whole, last) = (HELD_LIMIT / 64, HELD_LIMIT % 64);
+    let held = format!("M 64 64 *{whole}; M {last} {last}");
+    let session = format!("0A 01 01; 13; K 1E 1 *{QUEUE_ROOM}; {held}; 88; 11");
+    let steps = HELD_LIMIT as usize;
+    let pairs = ["4DCD".repeat(steps), "50D0".repeat(steps)].concat();
+    let resumed = ["1E".repeat(QUEUE_ROOM), pairs].concat();
+    let last = lines(&session).len();
+    let output = if lent < BUFFER {
+        format!("{}:(4) {last}:{resumed}", last - 1)
     } else {
-        format!("165:{resumed}F60A010100000000")
+        format!("{}:{resumed}F60A010100000000", last - 1)
     };
-    Paper::new(&format!("buffer {lent}"), lent, session, &output)
+    Paper::new(&format!("buffer {lent}"), lent, &session, &output)
 }
 
 /// Each number of each event outside its range.
@@ -174,8 +198,8 @@ pub fn bad_input() -> Vec<Session> {
                         "mouse {mouse}, joysticks {sticks}, {}",
                         if paused { "paused" } else { "not paused" }
                     ),
-                    lent: 8264,
-                    output: played(8264, &lines),
+                    lent: BUFFER,
+                    output: played(BUFFER, &lines),
                     lines,
                 });
             }

@@ -3,11 +3,13 @@
 
 use model::coverage::Coverage;
 use model::generator::session;
-use model::program::{session_head, Format, Player, BUFFER};
+use model::limits::{BUFFER, QUEUE_ROOM};
+use model::program::{session_head, Format, Player};
 use model::rules::Rules;
+use model::text::BAD_LINE;
 
 fn played(session: &[u8], rules: Rules) -> Vec<u8> {
-    let mut player = Player::new(rules, BUFFER);
+    let mut player = Player::new(Format::Text, rules, BUFFER);
     let mut out = Vec::new();
     for line in session.split_inclusive(|&byte| byte == b'\n') {
         player.play(line.strip_suffix(b"\n").unwrap_or(line), &mut out);
@@ -43,7 +45,7 @@ fn the_buffers_of_the_short_sessions() {
         .split(|&byte| byte == b'\n')
         .filter_map(session_head)
         .collect();
-    for length in (0..=20).chain([8263, 8264]) {
+    for length in (0..=20).chain([BUFFER - 1, BUFFER]) {
         assert!(heads.contains(&length));
     }
     assert!(heads.len() > 1000);
@@ -56,7 +58,7 @@ fn every_answer_and_every_pair_of_modes_is_met() {
         for answer in [0, 1, 2, 3, 9] {
             assert!(coverage.answers[answer] > 100);
         }
-        // A buffer of 8,264 bytes is never too short.
+        // The text program's buffer is never too short.
         assert_eq!(coverage.answers[4] > 100, format == Format::Vectors);
         assert_eq!(coverage.longest, BUFFER);
         let pairs = coverage.pairs.as_flattened().as_flattened();
@@ -64,6 +66,46 @@ fn every_answer_and_every_pair_of_modes_is_met() {
         let roles = coverage.roles.as_flattened().as_flattened();
         assert!(roles.iter().all(|&lines| lines > 100));
     }
+}
+
+/// Most are asked while paused, many of a queue that holds something or is
+/// full, after a refusal, or within a command.
+#[test]
+fn questions_are_asked_where_they_show_something() {
+    let text = session(1, 300_000, Format::Vectors);
+    let mut player = Player::new(Format::Vectors, Rules::DOCUMENT, BUFFER);
+    let (mut last, mut bad) = (0, 0);
+    let mut good = [0; 6];
+    for line in text.split(|&byte| byte == b'\n') {
+        if let Some(lent) = session_head(line) {
+            player.restart(lent);
+            continue;
+        }
+        let before = player.state;
+        let answer = player.play(line, &mut Vec::new());
+        if line == b"?\tqueue" {
+            assert_eq!((answer, player.written()), (0, before.queue.bytes().len()));
+            assert_eq!(player.state, before);
+            let met = [
+                !before.paused,
+                before.paused,
+                !before.queue.bytes().is_empty(),
+                before.queue.bytes().len() == QUEUE_ROOM,
+                (1..=4).contains(&last),
+                before.command.is_half_received(),
+            ];
+            for (count, met) in good.iter_mut().zip(met) {
+                *count += u32::from(met);
+            }
+        } else if line.starts_with(b"?") {
+            assert_eq!(answer, BAD_LINE);
+            bad += 1;
+        }
+        last = answer;
+    }
+    let [running, paused, ..] = good;
+    assert!(paused > running);
+    assert!(good.iter().all(|&count| count > 50) && bad > 50);
 }
 
 #[test]

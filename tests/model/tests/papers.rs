@@ -3,8 +3,9 @@
 use model::clock::Clock;
 use model::controller::{answer_number, step, Input};
 use model::joysticks::Joysticks;
-use model::papers::{lines, papers, sentences, Paper};
-use model::program::{run, Format, Player, BUFFER};
+use model::limits::BUFFER;
+use model::papers::{lines, papers, questions, sentences, Paper};
+use model::program::{run, Format, Player};
 use model::rules::Rules;
 use model::state::{JoystickMode, Role, State, Velocity};
 use model::text::{parse, HEADER};
@@ -19,10 +20,11 @@ fn text_program(input: &str, format: Format) -> String {
 /// Every session of the tables gives its stated output, line by line.
 #[test]
 fn every_session_gives_its_stated_output() {
-    let (papers, sentences) = (papers(), sentences());
+    let (papers, sentences, questions) = (papers(), sentences(), questions());
     assert_eq!(papers.len(), 17 + 78 + 7);
-    assert_eq!(sentences.len(), 14);
-    let stated = [papers, sentences].concat();
+    assert_eq!(sentences.len(), 20);
+    assert_eq!(questions.len(), 12);
+    let stated = [papers, sentences, questions].concat();
     for Paper { title, .. } in stated.iter().filter(|paper| !holds(paper)) {
         eprintln!("not as stated: {title}");
     }
@@ -81,12 +83,23 @@ fn a_head_starts_a_session_with_its_buffer() {
     assert_eq!(text_program(input, Format::Vectors), output);
 }
 
+/// The text program has no questions, and bad lines are no questions.
+#[test]
+fn questions_are_for_vectors_alone() {
+    let input = "B\t13\nK\t1E\t1\n?\tqueue\nK\t1E\t0\n?\tqueues\n?\tqueue";
+    let told = "1\t0\t-\n2\t0\t-\n3\t0\t1E\n4\t0\t-\n5\t9\t-\n6\t0\t1E9E\n";
+    assert_eq!(text_program(input, Format::Vectors), told);
+    let header = std::str::from_utf8(HEADER).unwrap();
+    let bad = "1\t0\t-\n2\t0\t-\n3\t9\t-\n4\t0\t-\n5\t9\t-\n6\t9\t-\n";
+    assert_eq!(text_program(input, Format::Text), format!("{header}{bad}"));
+}
+
 /// A refusal changes nothing: shown for every refused line of the vectors.
 #[test]
 fn refusals_leave_the_state() {
     let mut refused = [0; 5];
     for session in groups().iter().flat_map(|group| &group.sessions) {
-        let mut player = Player::new(Rules::DOCUMENT, session.lent);
+        let mut player = Player::new(Format::Vectors, Rules::DOCUMENT, session.lent);
         for line in &session.lines {
             let before = player.state;
             let answer = player.play(line.as_bytes(), &mut Vec::new());
@@ -128,11 +141,35 @@ fn after_number(line: &str) -> &str {
 
 /// The state after a session.
 fn after(session: &str) -> State {
-    let mut player = Player::new(Rules::DOCUMENT, BUFFER);
+    let mut player = Player::new(Format::Vectors, Rules::DOCUMENT, BUFFER);
     for line in lines(session) {
         player.play(line.as_bytes(), &mut Vec::new());
     }
     player.state
+}
+
+/// "Ignored commands change nothing": 0x0D and 0x0E outside absolute mode, and
+/// inquiries in either monitoring mode.
+#[test]
+fn ignored_commands_change_nothing() {
+    let inquiries = "87 88 89 8A 8B 8C 8F 90 92 94 95 96 99 9A";
+    let outside = ["0D", "0E 13 80 01 88 1C"];
+    let cases = [
+        ("0B 0A 0A; M 5 -3; K 1E 1", &outside[..]),
+        ("0A 04 04; M 3 -3; K 1E 1", &outside),
+        ("17 05; S 1 9 1; T *3", &[inquiries]),
+        ("18; S 1 9 1; F 1 *3", &[inquiries]),
+    ];
+    for (before, ignored) in cases {
+        for port0 in ["07 00", "16"] {
+            for pause in ["11", "13; M 30 40; K 1E 0; S 1 2 0"] {
+                let before = format!("{before}; {port0}; {pause}");
+                for command in ignored {
+                    assert_eq!(after(&format!("{before}; {command}")), after(&before));
+                }
+            }
+        }
+    }
 }
 
 /// "0x08, 0x09, 0x0A turn the mouse on, clear held motion, zero the coordinates"
@@ -199,7 +236,7 @@ fn leaving_a_monitoring_mode_clears_ticks_and_samples() {
 /// Reading 22: "A refused tick does not move the clock"
 #[test]
 fn reading_22() {
-    let mut player = Player::new(Rules::DOCUMENT, 1);
+    let mut player = Player::new(Format::Vectors, Rules::DOCUMENT, 1);
     for line in lines("17 01; T *3") {
         player.play(line.as_bytes(), &mut Vec::new());
     }

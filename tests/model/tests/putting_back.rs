@@ -2,8 +2,9 @@
 
 use model::controller::{step, Input};
 use model::generator::session;
+use model::limits::BUFFER;
 use model::mouse::Mouse;
-use model::program::{Format, Player, BUFFER};
+use model::program::{Format, Player};
 use model::rules::Rules;
 use model::state::{JoystickMode, MouseMode, Role, State};
 use model::text::parse;
@@ -45,7 +46,7 @@ fn host(state: &mut State, byte: u8) -> Vec<u8> {
 
 /// The state after a random session, with no command half received.
 fn random_state(seed: u64) -> State {
-    let mut player = Player::new(Rules::DOCUMENT, BUFFER);
+    let mut player = Player::new(Format::Text, Rules::DOCUMENT, BUFFER);
     let text = session(seed, 300, Format::Text);
     for line in text.split(|&byte| byte == b'\n') {
         player.play(line, &mut Vec::new());

@@ -8,7 +8,7 @@ use lib.ListN.{length, length-drop}
 use denote.Ref.{now}
 use lib.Seq.{length-take-le}
 use borrow.Author.Needs.{needs}
-use Rattle.controller.specs.State.{IsState}
+use Rattle.controller.specs.State.{IsState, queue-room}
 use Rattle.text.specs.Reading.{first-line}
 use Rattle.text.specs.Output.{line-room}
 use Rattle.text.proofs.Fields.{rest-of}
@@ -23,7 +23,7 @@ Inv-loop block lent₀ out₀ n now₀ from₀ lent out now from =
     × (from ≤ length block)
     × (length lent ≡ length lent₀)
     × (length out ≡ length out₀)
-    × (line-room (length lent₀) ≤ length out₀)
+    × ((queue-room ≤ length lent₀) × (line-room (length lent₀) ≤ length out₀))
     × (now₀ .number + length block < 2 ^ 64)
 
 abbrev μ-loop : tie.MeasureT-loop
@@ -68,7 +68,7 @@ print-requires c κs =
     let e = line-within block from (i .2) in
     let lent = rest-of from block in (
       (subst (λ (l : List ℕ). end .result - from ≡ length (first-line l)) (sym lent) (omega (arith, found)), subst (λ (l : List ℕ). end .result - from < length l) (sym lent) (omega (arith, found, line, e, length-drop from block))),
-      (i .0, (omega (arith, i .1, i .6, c .before .before .before .before .before .loop-test .taken), omega (arith, i .3, i .4, i .5))),
+      (i .0, (omega (arith, i .1, i .6, c .before .before .before .before .before .loop-test .taken), (omega (arith, i .3, i .5 .0), omega (arith, i .3, i .4, i .5 .1)))),
     )
 
 slice-reshare-prefix-write-all : tie.Need-slice-reshare-prefix-write-all Inv-loop μ-loop

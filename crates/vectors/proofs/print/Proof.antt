@@ -2,11 +2,12 @@
 -- Assumes nothing.
 use Prim.Native.Nat.{_^_, _<_}
 use native.Mathlib.Omega.{arith}
-use mathlib.Core.Path.{sym, subst}
+use mathlib.Core.Path.{sym}
 use lib.ListN.{length, length-take}
 use lib.Seq.{length-take-le}
-use borrow.Author.Needs.{needs}
+use Rattle.controller.proofs.Lengths.{queue-small}
 use Rattle.session.proofs.Feeding.{wrote-within}
+use borrow.Author.Needs.{needs}
 use Rattle.vectors.proofs.print.Statement.{statement}
 use Rattle.vectors.proofs.print.Tie as tie
 
@@ -15,13 +16,17 @@ text-small : (c : tie.After-shared-slice-known) → length (c .before .args .tex
 text-small c = search needs
 
 slice-aggregate-line : tie.Need-slice-aggregate-line
-slice-aggregate-line c = sym (length-take-le _ _ (omega (arith, c .before .before .before .before .pre .0)))
+slice-aggregate-line c =
+    let s = c .before .before .before .before in
+    sym (length-take-le _ _ (omega (arith, s .pre .0)))
 
 is-head-requires : tie.Need-is-head-requires
 is-head-requires c κs = search needs
 
 copy-requires : tie.Need-copy-requires
-copy-requires c κs = (simp length-take (omega (arith, c .before .before .before .before .before .before .before .before .pre .0)), omega (arith, c .before .if2 .taken))
+copy-requires c κs =
+    let s = c .before .before .before .before .before .before .before .before in
+    (simp length-take (omega (arith, s .pre .0)), omega (arith, c .before .if2 .taken))
 
 slice-write-out : tie.Need-slice-write-out
 slice-write-out c = search needs
@@ -32,14 +37,43 @@ number-in-requires c κs = search needs
 power-up-requires : tie.Need-power-up-requires
 power-up-requires c κs = search needs
 
-add-t20 : tie.Need-add-t20
-add-t20 c = omega (arith, c .before .before .before .before .before .before .before .before .before .before .before .before .before .pre .0, text-small (c .before .before .before .before .before .before .before .before .before .before .before .before))
+add-t22 : tie.Need-add-t22
+add-t22 c =
+    let at-shared-slice-known = c .before .before .before .before .before .before .before .before .before .before .before .before in
+    let s = at-shared-slice-known .before in
+    omega (arith, s .pre .0, text-small (at-shared-slice-known))
 
 same-length : tie.Need-same-length
 same-length c = search needs
 
 returns : tie.Need-returns
-returns c = (c .power-up .ensures .0, (omega (arith, c .power-up .ensures .1), omega (arith, c .before .before .before .before .before .before .if2 .taken)))
+returns c =
+    let at-if2 = c .before .before .before .before .before .before in
+    (c .power-up .ensures .0, (omega (arith, c .power-up .ensures .1), omega (arith, at-if2 .if2 .taken)))
+
+slice-aggregate-is-question : tie.Need-slice-aggregate-is-question
+slice-aggregate-is-question c = search needs
+
+is-question-requires : tie.Need-is-question-requires
+is-question-requires c κs = search needs
+
+tell-queue-requires : tie.Need-tell-queue-requires
+tell-queue-requires c κs =
+    let s = c .before .before .before .before .before .before .before .before .before .before .before in
+    (s .pre .1 .0, omega (arith, queue-small (s .args .session .state) (s .pre .1 .0), s .pre .1 .1 .1))
+
+add-t28 : tie.Need-add-t28
+add-t28 c =
+    let s = c .before .before .before .before .before .before .before .before .before .before .before .before .before .before .before in
+    omega (arith, s .pre .1 .1 .0)
+
+same-length-2 : tie.Need-same-length-2
+same-length-2 c = search needs
+
+returns-2 : tie.Need-returns-2
+returns-2 c =
+    let s = c .before .before .before .before .before .before .before .before .before .before .before .before .before .before .before in
+    (s .pre .1 .0, (omega arith, omega (arith, wrote-within (c .before .before .before .tell-queue .ensures), c .before .before .out2 .given)))
 
 smaller-requires : tie.Need-smaller-requires
 smaller-requires c κs = search needs
@@ -48,22 +82,28 @@ slice-relend-prefix-play : tie.Need-slice-relend-prefix-play
 slice-relend-prefix-play c = search needs
 
 slice-aggregate-play : tie.Need-slice-aggregate-play
-slice-aggregate-play c = sym (length-take-le _ _ (c .before .before .smaller .ensures))
+slice-aggregate-play c = sym (length-take-le _ _ (c .before .smaller .ensures))
 
 play-requires : tie.Need-play-requires
-play-requires c κs = let start = c .before .before .before .before .before .before .before .before .before .before in (start .pre .1 .0, (omega (arith, start .pre .0), simp length-take (omega (arith, start .pre .1 .1 .1))))
+play-requires c κs =
+    let s = c .before .before .before .before .before .before .before .before .before .before .before .before .before in
+    (s .pre .1 .0, (omega (arith, s .pre .0), simp length-take (omega (arith, s .pre .1 .1 .1))))
 
-add-t26 : tie.Need-add-t26
-add-t26 c = omega (arith, c .before .before .before .before .before .before .before .before .before .before .before .before .before .before .before .before .before .pre .1 .1 .0)
-
-same-length-2 : tie.Need-same-length-2
-same-length-2 c = search needs
+add-t35 : tie.Need-add-t35
+add-t35 c =
+    let s = c .before .before .before .before .before .before .before .before .before .before .before .before .before .before .before .before .before .before .before .before in
+    omega (arith, s .pre .1 .1 .0)
 
 same-length-3 : tie.Need-same-length-3
 same-length-3 c = search needs
 
-returns-2 : tie.Need-returns-2
-returns-2 c = let played = c .before .before .before .before .before .before .play in (played .ensures .1 .1, (omega arith, omega (arith, wrote-within (played .ensures .0), c .before .before .before .out2 .given)))
+same-length-4 : tie.Need-same-length-4
+same-length-4 c = search needs
+
+returns-3 : tie.Need-returns-3
+returns-3 c =
+    let at-play = c .before .before .before .before .before .before in
+    (at-play .play .ensures .1 .1, (omega arith, omega (arith, wrote-within (at-play .play .ensures .0), c .before .before .before .out3 .given)))
 
 pub print-spec : {M : Type 1} → statement M
 print-spec =
@@ -75,14 +115,20 @@ print-spec =
     slice-write-out
     number-in-requires
     power-up-requires
-    add-t20
+    add-t22
     same-length
     returns
+    slice-aggregate-is-question
+    is-question-requires
+    tell-queue-requires
+    add-t28
+    same-length-2
+    returns-2
     smaller-requires
     slice-relend-prefix-play
     slice-aggregate-play
     play-requires
-    add-t26
-    same-length-2
+    add-t35
     same-length-3
-    returns-2)
+    same-length-4
+    returns-3)

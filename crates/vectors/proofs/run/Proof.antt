@@ -6,7 +6,7 @@ use mathlib.Core.Path.{_≡_, sym, _∙_}
 use lib.ListN.{length, length-take}
 use lib.Seq.{length-take-le}
 use borrow.Author.Needs.{needs}
-use Rattle.controller.specs.State.{IsState}
+use Rattle.controller.specs.State.{IsState, queue-room}
 use Rattle.text.specs.Output.{line-room}
 use Rattle.vectors.proofs.run.Statement.{statement}
 use Rattle.vectors.proofs.run.Tie as tie
@@ -19,7 +19,7 @@ Inv-loop block₀ lent₀ out₀ session₀ kept₀ blocks₀ block lent out ses
     × (length block ≡ 65536)
     × (length lent ≡ length lent₀)
     × (length out ≡ length out₀)
-    × (line-room (length lent₀) ≤ length out₀)
+    × ((queue-room ≤ length lent₀) × (line-room (length lent₀) ≤ length out₀))
 
 abbrev μ-loop : tie.MeasureT-loop
 μ-loop block₀ lent₀ out₀ session₀ kept₀ blocks₀ block lent out session kept blocks = blocks
@@ -43,7 +43,7 @@ slice-aggregate-answer : tie.Need-slice-aggregate-answer Inv-loop μ-loop
 slice-aggregate-answer c = let i = c .before .before .before .before .before .before .before .before .before .before .before .loop .inv in sym (length-take-le _ _ (omega (arith, i .2, i .3, c .before .before .before .before .before .before .before .block .given, c .before .before .block2 .given, c .before .before .before .finish .ensures .0)))
 
 answer-requires : tie.Need-answer-requires Inv-loop μ-loop
-answer-requires c κs = let i = c .before .before .before .before .before .before .before .before .before .before .before .before .before .loop .inv in (i .0, (simp length-take (omega (arith, i .1, i .2, c .before .before .before .before .before .finish .ensures .0, c .before .before .before .before .before .before .before .before .before .before .before .before .loop-test .taken)), omega (arith, i .4, i .5, i .6)))
+answer-requires c κs = let i = c .before .before .before .before .before .before .before .before .before .before .before .before .before .loop .inv in (i .0, (simp length-take (omega (arith, i .1, i .2, c .before .before .before .before .before .finish .ensures .0, c .before .before .before .before .before .before .before .before .before .before .before .before .loop-test .taken)), (omega (arith, i .4, i .6 .0), omega (arith, i .4, i .5, i .6 .1))))
 
 same-length : tie.Need-same-length Inv-loop μ-loop
 same-length c = c .before .before .before .before .before .before .before .before .before .block2 .given ∙ c .before .before .before .before .before .before .before .before .before .before .before .before .before .before .block .given ∙ c .before .before .before .before .before .before .before .before .before .before .before .before .before .before .before .before .before .before .loop .inv .3 ∙ sym (c .before .before .before .before .before .before .before .before .before .before .before .before .before .before .before .before .before .before .before .before .before .before .before .pre .0)
@@ -64,7 +64,7 @@ slice-aggregate-answer-2 : tie.Need-slice-aggregate-answer-2 Inv-loop μ-loop
 slice-aggregate-answer-2 c = sym (length-take-le _ _ (omega (arith, c .before .before .before .before .read-on .ensures .1, c .before .before .before .block .given)))
 
 answer-requires-2 : tie.Need-answer-requires-2 Inv-loop μ-loop
-answer-requires-2 c κs = let i = c .before .before .before .before .before .before .before .before .before .loop .inv in (i .0, (simp length-take (omega (arith, i .1, i .3, c .before .before .before .before .before .before .read-on .ensures .1, c .before .before .before .before .before .before .before .before .loop-test .taken)), omega (arith, i .4, i .5, i .6)))
+answer-requires-2 c κs = let i = c .before .before .before .before .before .before .before .before .before .loop .inv in (i .0, (simp length-take (omega (arith, i .1, i .3, c .before .before .before .before .before .before .read-on .ensures .1, c .before .before .before .before .before .before .before .before .loop-test .taken)), (omega (arith, i .4, i .6 .0), omega (arith, i .4, i .5, i .6 .1))))
 
 same-length-4 : tie.Need-same-length-4 Inv-loop μ-loop
 same-length-4 c = c .before .before .before .before .before .before .before .before .before .before .before .before .block .given ∙ c .before .before .before .before .before .before .before .before .before .before .before .before .before .before .before .before .loop .inv .3 ∙ sym (c .before .before .before .before .before .before .before .before .before .before .before .before .before .before .before .before .before .before .before .before .before .pre .0)

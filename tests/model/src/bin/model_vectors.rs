@@ -1,4 +1,5 @@
-//! Plays sessions that are each headed by the length of the lent buffer.
+//! Plays sessions that are each headed by the length of the lent buffer, and
+//! answers questions.
 
 use model::program::{run, Format};
 

@@ -16,11 +16,16 @@ const OPENING: &str = "\
 `crates/vectors/stdin` holds sessions one after the other. A line `=`, a tab and
 a number starts a session from power-up; the number is the length of the buffer
 lent with every input of the session. Every other line is an input line as the
-text program reads it. `crates/vectors/stdout` is what is expected: the `=` lines
-as they stand, and for every other line its number within the session, the
-answer (9 for a bad line) and the bytes in hex or `-`. Both, and this list, are
-written by `write_vectors` of `tests/model`; the gate writes them anew and looks
-that they are the same.
+text program reads it, or a question. `crates/vectors/stdout` is what is
+expected: the `=` lines as they stand, and for every other line its number within
+the session, the answer (9 for a bad line) and the bytes in hex or `-`. Both, and
+this list, are written by `write_vectors` of `tests/model`; the gate writes them
+anew and looks that they are the same.
+
+A question is a line `?`, a tab and a word. It is no input: nothing changes, and
+the lent buffer does not matter. `queue` asks for the bytes that wait in the
+queue, oldest first, and its answer is 0. Any other line that begins with `?` is
+a bad line.
 
 The sessions, in order:
 ";

@@ -1,9 +1,7 @@
 -- `clock::Clock::report` meets its contract.
 -- Assumes nothing.
-use native.Mathlib.Omega.{arith}
 use borrow.Author.Needs.{needs}
 use Rattle.clock.specs.Setting.{report}
-use Rattle.clock.proofs.Laws.{month-bounds}
 use Rattle.clock.proofs.Clock.report.Statement.{statement}
 use Rattle.clock.proofs.Clock.report.Tie as tie
 
@@ -14,7 +12,7 @@ to-bcd-requires-2 : tie.Need-to-bcd-requires-2
 to-bcd-requires-2 c κs = search needs
 
 to-bcd-requires-3 : tie.Need-to-bcd-requires-3
-to-bcd-requires-3 c κs = omega (arith, month-bounds (c .before .before .args .self .year) (c .before .before .args .self .month))
+to-bcd-requires-3 c κs = search needs
 
 to-bcd-requires-4 : tie.Need-to-bcd-requires-4
 to-bcd-requires-4 c κs = search needs

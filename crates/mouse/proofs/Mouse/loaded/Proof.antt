@@ -29,7 +29,7 @@ smaller-requires-2 : tie.Need-smaller-requires-2
 smaller-requires-2 c κs = search needs
 
 returns : tie.Need-returns
-returns c = rw (c .before .before .before .before .smaller .ensures, c .before .before .before .before .before .word .ensures, c .before .before .smaller2 .ensures, c .before .before .before .word2 .ensures)
+returns c = rw (c .before .before .smaller .ensures, c .before .before .before .word .ensures, c .smaller2 .ensures, c .before .word2 .ensures)
 
 pub loaded-spec : {M : Type 1} → statement M
 loaded-spec =

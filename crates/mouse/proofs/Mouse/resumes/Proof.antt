@@ -24,12 +24,12 @@ returns-2 : tie.Need-returns-2
 unfolding released
 returns-2 c = rw (not-false (c .before .before .before .before .args .paused) (c .before .before .before .if1 .left), sym (c .before .before .live .ensures) ∙ not-true _ (c .before .if2 .taken)) (c .stays2 .ensures)
 
-due-requires : tie.Need-due-requires
-due-requires c κs = search needs
+motion-due-requires : tie.Need-motion-due-requires
+motion-due-requires c κs = search needs
 
 returns-3 : tie.Need-returns-3
 unfolding released
-returns-3 c = rw (not-false (c .before .before .before .before .args .paused) (c .before .before .before .if1 .left), sym (c .before .before .live .ensures) ∙ not-false _ (c .before .if2 .left)) (c .due .ensures)
+returns-3 c = rw (not-false (c .before .before .before .before .args .paused) (c .before .before .before .if1 .left), sym (c .before .before .live .ensures) ∙ not-false _ (c .before .if2 .left)) (c .motion-due .ensures)
 
 pub resumes-spec : {M : Type 1} → statement M
 resumes-spec =
@@ -40,5 +40,5 @@ resumes-spec =
     live-requires
     stays-requires-2
     returns-2
-    due-requires
+    motion-due-requires
     returns-3)

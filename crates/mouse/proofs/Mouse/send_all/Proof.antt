@@ -20,11 +20,11 @@ larger-requires-2 c κs = search needs
 at-rest-requires : tie.Need-at-rest-requires
 at-rest-requires c κs = search needs
 
-at-rest-requires-2 : tie.Need-at-rest-requires-2
-at-rest-requires-2 c κs = search needs
+without-motion-requires : tie.Need-without-motion-requires
+without-motion-requires c κs = search needs
 
 returns : tie.Need-returns
-returns c = all-as _ _ (c .before .before .before .before .before .before .before .packets-needed .ensures) (c .before .before .before .before .before .before .packets-needed2 .ensures) (c .before .before .before .before .before .larger .ensures) (c .before .before .before .before .larger2 .ensures) (c .before .before .before .at-rest .ensures) (c .before .before .at-rest2 .ensures)
+returns c = all-as _ _ (c .before .before .before .before .before .packets-needed .ensures) (c .before .before .before .before .packets-needed2 .ensures) (c .before .before .before .larger .ensures) (c .before .before .larger2 .ensures) (c .before .at-rest .ensures) (c .without-motion .ensures)
 
 pub send-all-spec : {M : Type 1} → statement M
 send-all-spec =
@@ -35,5 +35,5 @@ send-all-spec =
     larger-requires
     larger-requires-2
     at-rest-requires
-    at-rest-requires-2
+    without-motion-requires
     returns)

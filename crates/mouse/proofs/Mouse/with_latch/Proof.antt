@@ -8,7 +8,7 @@ latched-requires : tie.Need-latched-requires
 latched-requires c κs = search needs
 
 returns : tie.Need-returns
-returns c = cc (c .before .before .latched .ensures)
+returns c = cc (c .latched .ensures)
 
 pub with-latch-spec : {M : Type 1} → statement M
 with-latch-spec = tie.close (tie.spec latched-requires returns)

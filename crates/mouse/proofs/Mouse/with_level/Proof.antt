@@ -11,10 +11,10 @@ enum-told-2 : tie.Need-enum-told-2
 enum-told-2 c = search needs
 
 returns : tie.Need-returns
-returns c = simp (c .before .before .before .enum-told .given .1)
+returns c = simp (c .enum-told .given .1)
 
 returns-2 : tie.Need-returns-2
-returns-2 c = simp (c .before .before .before .enum-told2 .given .1)
+returns-2 c = simp (c .enum-told2 .given .1)
 
 pub with-level-spec : {M : Type 1} → statement M
 with-level-spec = tie.close (tie.spec enum-told enum-told-2 returns returns-2)

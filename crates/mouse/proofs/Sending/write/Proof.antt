@@ -4,11 +4,10 @@ use native.Mathlib.Omega.{arith}
 use Prim.Native.Nat.{_*_, _+_}
 use denote.Ref.{now}
 use lib.ListN.{length-take, length-drop}
-use Rattle.output.specs.Packets.{bit}
 use Rattle.output.proofs.Packets.{bytes-append}
 use Rattle.output.proofs.Writing.{both}
 use Rattle.motion.specs.Motion.{size}
-use Rattle.mouse.specs.Sending.{packets-sent}
+use Rattle.mouse.specs.Sending.{buttons, packets-sent}
 use Rattle.mouse.proofs.Lengths.{split-length, arrows-length, sent-length}
 use Rattle.mouse.proofs.Sends.{Room, room-left}
 use borrow.Author.Needs.{needs}
@@ -19,7 +18,7 @@ first : (c : tie.After-write-packets) → Room (c .write-packets .result) (2 * (
 first c =
     let s = c .before .before .before in
     let d = s .args .self in
-    room-left _ _ (c .write-packets .ensures) (split-length (d .packets) (2 * bit (d .left) + bit (d .right)) (d .held)) (omega (arith, s .pre, sent-length d))
+    room-left _ _ (c .write-packets .ensures) (split-length (d .packets) (buttons (d .left) (d .right)) (d .held)) (omega (arith, s .pre, sent-length d))
 
 write-packets-requires : tie.Need-write-packets-requires
 write-packets-requires c κs = let s = c .before .before in omega (arith, s .pre, sent-length (s .args .self))

@@ -13,8 +13,8 @@ of-signed-requires c κs = search needs
 of-signed-requires-2 : tie.Need-of-signed-requires-2
 of-signed-requires-2 c κs = search needs
 
-turns-y-requires : tie.Need-turns-y-requires
-turns-y-requires c κs = search needs
+negates-dy-requires : tie.Need-negates-dy-requires
+negates-dy-requires c κs = search needs
 
 opposite-requires : tie.Need-opposite-requires
 opposite-requires c κs = search needs
@@ -23,13 +23,13 @@ returns : tie.Need-returns
 returns c =
     let s = c .before .before .before .before .before in
     turned-as (s .args .settings) (s .args .dx) (s .args .dy) (toZ-ofZ w16 _ (s .fits .dx)) (toZ-ofZ w16 _ (s .fits .dy))
-    (c .before .before .before .before .of-signed .ensures) (c .before .before .before .of-signed2 .ensures) (c .before .before .turns-y .ensures) (c .before .if1 .taken) (c .opposite .ensures)
+    (c .before .before .before .before .of-signed .ensures) (c .before .before .before .of-signed2 .ensures) (c .before .before .negates-dy .ensures) (c .before .if1 .taken) (c .opposite .ensures)
 
 returns-2 : tie.Need-returns-2
 returns-2 c =
     let s = c .before .before .before .before in
     plain-as (s .args .settings) (s .args .dx) (s .args .dy) (toZ-ofZ w16 _ (s .fits .dx)) (toZ-ofZ w16 _ (s .fits .dy))
-    (c .before .before .before .of-signed .ensures) (c .before .before .of-signed2 .ensures) (c .before .turns-y .ensures) (c .if1 .left)
+    (c .before .before .before .of-signed .ensures) (c .before .before .of-signed2 .ensures) (c .before .negates-dy .ensures) (c .if1 .left)
 
 pub incoming-spec : {M : Type 1} → statement M
 incoming-spec =
@@ -37,7 +37,7 @@ incoming-spec =
     (tie.spec
     of-signed-requires
     of-signed-requires-2
-    turns-y-requires
+    negates-dy-requires
     opposite-requires
     returns
     returns-2)

@@ -3,14 +3,13 @@
 use native.Mathlib.Omega.{arith}
 use lib.ListN.{length-take, length-drop}
 use borrow.Author.Needs.{needs}
-use Prim.Native.Nat.{_+_, _*_}
-use Rattle.output.specs.Packets.{bit}
+use Rattle.mouse.specs.Sending.{buttons}
 use Rattle.mouse.proofs.Sends.{Going, start, turn, done}
 use Rattle.mouse.proofs.send.write_packets.Statement.{statement}
 use Rattle.mouse.proofs.send.write_packets.Tie as tie
 
 abbrev Inv-loop : tie.InvT-loop
-Inv-loop n left right out₀ first x₀ y₀ rest₀ at₀ out x y rest at = Going n (2 * bit left + bit right) (record { x = x₀; y = y₀ }) out₀ out x y rest at
+Inv-loop n left right out₀ first x₀ y₀ rest₀ at₀ out x y rest at = Going n (buttons left right) (record { x = x₀; y = y₀ }) out₀ out x y rest at
 
 abbrev μ-loop : tie.MeasureT-loop
 μ-loop n left right out₀ first x₀ y₀ rest₀ at₀ out x y rest at = rest
@@ -39,11 +38,11 @@ part-put3-end c = search needs
 put3-requires : tie.Need-put3-requires Inv-loop μ-loop
 put3-requires c κs = simp (length-take, length-drop) (omega (arith, c .before .before .before .before .loop .inv .room, c .before .before .before .before .loop .inv .same))
 
-left-over-requires : tie.Need-left-over-requires Inv-loop μ-loop
-left-over-requires c κs = search needs
+after-part-requires : tie.Need-after-part-requires Inv-loop μ-loop
+after-part-requires c κs = search needs
 
-left-over-requires-2 : tie.Need-left-over-requires-2 Inv-loop μ-loop
-left-over-requires-2 c κs = search needs
+after-part-requires-2 : tie.Need-after-part-requires-2 Inv-loop μ-loop
+after-part-requires-2 c κs = search needs
 
 add-at : tie.Need-add-at Inv-loop μ-loop
 add-at c = omega (arith, c .before .before .before .before .put3 .ensures .count, c .before .before .before .before .before .before .before .before .before .loop .inv .room)
@@ -62,7 +61,7 @@ loop-again c =
     let test = first .before in
     let head = test .before in
     turn _ _ _ _ (head .loop .inv) (test .loop-test .taken) (head .before .before .before .header .ensures) (first .part-byte .ensures)
-    (second .part-byte2 .ensures) (put .put3 .ensures) (c .before .left-over .ensures) (c .left-over2 .ensures)
+    (second .part-byte2 .ensures) (put .put3 .ensures) (c .before .after-part .ensures) (c .after-part2 .ensures)
 
 same-length : tie.Need-same-length Inv-loop μ-loop
 same-length c = c .before .loop .inv .same
@@ -84,8 +83,8 @@ write-packets-spec =
     part-put3-start
     part-put3-end
     put3-requires
-    left-over-requires
-    left-over-requires-2
+    after-part-requires
+    after-part-requires-2
     add-at
     sub-rest
     loop-less

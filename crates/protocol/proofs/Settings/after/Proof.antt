@@ -27,11 +27,17 @@ enum-known-m c = search needs
 mouse-sets-requires : tie.Need-mouse-sets-requires
 mouse-sets-requires c κs = search needs
 
+with-role-requires : tie.Need-with-role-requires
+with-role-requires c κs = search needs
+
 enum-known-m-2 : tie.Need-enum-known-m-2
 enum-known-m-2 c = search needs
 
 stick-sets-requires : tie.Need-stick-sets-requires
 stick-sets-requires c κs = search needs
+
+with-role-requires-2 : tie.Need-with-role-requires-2
+with-role-requires-2 c κs = search needs
 
 enum-known-m-3 : tie.Need-enum-known-m-3
 enum-known-m-3 c = search needs
@@ -60,11 +66,11 @@ returns-4 c = c .power-up .ensures ∙ rw (c .before .enum-told4 .given .1)
 
 returns-5 : tie.Need-returns-5
 unfolding sets
-returns-5 c = c .mouse-sets .ensures ∙ rw (c .before .before .m .given .1)
+returns-5 c = c .with-role .ensures ∙ rw (c .before .mouse-sets .ensures, c .before .before .before .m .given .1)
 
 returns-6 : tie.Need-returns-6
 unfolding sets
-returns-6 c = c .stick-sets .ensures ∙ rw (c .before .before .m2 .given .1)
+returns-6 c = c .with-role2 .ensures ∙ rw (c .before .stick-sets .ensures, c .before .before .before .m2 .given .1)
 
 returns-7 : tie.Need-returns-7
 unfolding sets
@@ -85,8 +91,10 @@ after-spec =
     power-up-requires
     enum-known-m
     mouse-sets-requires
+    with-role-requires
     enum-known-m-2
     stick-sets-requires
+    with-role-requires-2
     enum-known-m-3
     other-sets-requires
     enum-told-5

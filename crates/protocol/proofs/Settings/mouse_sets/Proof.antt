@@ -60,14 +60,8 @@ with-scale-requires c κs = search needs
 enum-told-7 : tie.Need-enum-told-7
 enum-told-7 c = search needs
 
-with-role-requires : tie.Need-with-role-requires
-with-role-requires c κs = search needs
-
 enum-told-8 : tie.Need-enum-told-8
 enum-told-8 c = search needs
-
-with-role-requires-2 : tie.Need-with-role-requires-2
-with-role-requires-2 c κs = search needs
 
 enum-told-9 : tie.Need-enum-told-9
 enum-told-9 c = search needs
@@ -107,11 +101,11 @@ returns-6 c = c .with-scale .ensures ∙ rw (c .before .before .enum-told6 .give
 
 returns-7 : tie.Need-returns-7
 unfolding mouse-sets
-returns-7 c = c .with-role .ensures ∙ rw (c .before .enum-told7 .given .1)
+returns-7 c = rw (c .enum-told7 .given .1)
 
 returns-8 : tie.Need-returns-8
 unfolding mouse-sets
-returns-8 c = c .with-role2 .ensures ∙ rw (c .before .enum-told8 .given .1)
+returns-8 c = rw (c .enum-told8 .given .1)
 
 returns-9 : tie.Need-returns-9
 unfolding mouse-sets
@@ -143,9 +137,7 @@ mouse-sets-spec =
     axes-requires-3
     with-scale-requires
     enum-told-7
-    with-role-requires
     enum-told-8
-    with-role-requires-2
     enum-told-9
     with-origin-requires
     enum-told-10

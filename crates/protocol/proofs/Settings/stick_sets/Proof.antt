@@ -21,14 +21,11 @@ with-stick-requires-2 c κs = search needs
 enum-told-3 : tie.Need-enum-told-3
 enum-told-3 c = search needs
 
-with-role-requires : tie.Need-with-role-requires
-with-role-requires c κs = search needs
-
 enum-told-4 : tie.Need-enum-told-4
 enum-told-4 c = search needs
 
-array-read-t11 : tie.Need-array-read-t11
-array-read-t11 c = search needs
+array-read-t10 : tie.Need-array-read-t10
+array-read-t10 c = search needs
 
 with-stick-requires-3 : tie.Need-with-stick-requires-3
 with-stick-requires-3 c κs = search needs
@@ -42,8 +39,8 @@ with-stick-requires-4 c κs = search needs
 enum-told-6 : tie.Need-enum-told-6
 enum-told-6 c = search needs
 
-cursor-requires : tie.Need-cursor-requires
-cursor-requires c κs = search needs
+stick-keycode-requires : tie.Need-stick-keycode-requires
+stick-keycode-requires c κs = search needs
 
 with-stick-requires-5 : tie.Need-with-stick-requires-5
 with-stick-requires-5 c κs = search needs
@@ -64,7 +61,7 @@ returns-2 c = c .with-stick2 .ensures ∙ rw (c .before .enum-told2 .given .1)
 
 returns-3 : tie.Need-returns-3
 unfolding stick-sets
-returns-3 c = c .with-role .ensures ∙ rw (c .before .enum-told3 .given .1)
+returns-3 c = rw (c .enum-told3 .given .1)
 
 returns-4 : tie.Need-returns-4
 unfolding stick-sets
@@ -76,7 +73,7 @@ returns-5 c = c .with-stick4 .ensures ∙ rw (c .before .enum-told5 .given .1)
 
 returns-6 : tie.Need-returns-6
 unfolding stick-sets
-returns-6 c = c .with-stick5 .ensures ∙ rw (c .before .before .enum-told6 .given .1, c .before .cursor .ensures)
+returns-6 c = c .with-stick5 .ensures ∙ rw (c .before .before .enum-told6 .given .1, c .before .stick-keycode .ensures)
 
 returns-7 : tie.Need-returns-7
 unfolding stick-sets
@@ -91,14 +88,13 @@ stick-sets-spec =
     enum-told-2
     with-stick-requires-2
     enum-told-3
-    with-role-requires
     enum-told-4
-    array-read-t11
+    array-read-t10
     with-stick-requires-3
     enum-told-5
     with-stick-requires-4
     enum-told-6
-    cursor-requires
+    stick-keycode-requires
     with-stick-requires-5
     enum-told-7
     without-sticks-requires

@@ -21,8 +21,8 @@ three-requires c κs = search needs
 enum-told-2 : tie.Need-enum-told-2
 enum-told-2 c = search needs
 
-left-from-requires : tie.Need-left-from-requires
-left-from-requires c κs = search needs
+monitoring-left-requires : tie.Need-monitoring-left-requires
+monitoring-left-requires c κs = search needs
 
 quiet-requires : tie.Need-quiet-requires
 quiet-requires c κs = search needs
@@ -39,7 +39,7 @@ returns c = simp (c .before .before .before .enum-told .given .1, c .three .ensu
 
 returns-2 : tie.Need-returns-2
 unfolding commanded
-returns-2 c = simp (c .before .before .enum-told2 .given .1, ← c .before .left-from .ensures) (c .quiet .ensures)
+returns-2 c = simp (c .before .before .enum-told2 .given .1, ← c .before .monitoring-left .ensures) (c .quiet .ensures)
 
 returns-3 : tie.Need-returns-3
 returns-3 c = simp (clears (c .before .before .before .args .c) (c .before .before .match .keys3), ← c .before .cleared .ensures) (c .quiet2 .ensures)
@@ -53,7 +53,7 @@ commanded-spec =
     byte-requires-2
     three-requires
     enum-told-2
-    left-from-requires
+    monitoring-left-requires
     quiet-requires
     cleared-requires
     quiet-requires-2

@@ -1,5 +1,6 @@
 -- `sticks::Sticks::monitored` meets its contract.
 -- Assumes nothing.
+use Prim.Native.Nat.{_+_, _<_, _≤_}
 use native.Mathlib.Omega.{arith}
 use borrow.Author.Needs.{needs}
 use borrow.Author.Tests.{lt-leb, le-leb}
@@ -8,18 +9,23 @@ use Rattle.sticks.proofs.Codes.{bit-most}
 use Rattle.sticks.proofs.Sticks.monitored.Statement.{statement}
 use Rattle.sticks.proofs.Sticks.monitored.Tie as tie
 
-add-ticks : tie.Need-add-ticks
-add-ticks c = search needs
-
 acts-as-requires : tie.Need-acts-as-requires
 acts-as-requires c κs = search needs
+
+sub-if1 : tie.Need-sub-if1
+sub-if1 c = search needs
+
+add-self : tie.Need-add-self
+add-self c = search needs
 
 quiet-requires : tie.Need-quiet-requires
 quiet-requires c κs = search needs
 
 returns : tie.Need-returns
 unfolding monitored
-returns c = simp (← c .before .before .acts-as .ensures, lt-leb _ _ (c .before .if1 .taken)) (c .quiet .ensures)
+returns c =
+    let below : c .before .before .before .before .before .args .self .ticks + 1 < c .before .before .before .before .acts-as .result = omega arith in
+    simp (← c .before .before .before .before .acts-as .ensures, lt-leb _ _ below) (c .quiet .ensures)
 
 bit-requires : tie.Need-bit-requires
 bit-requires c κs = search needs
@@ -44,14 +50,17 @@ two-requires c κs = search needs
 
 returns-2 : tie.Need-returns-2
 unfolding monitored both
-returns-2 c = simp (← c .before .before .before .before .before .before .acts-as .ensures, le-leb _ _ (c .before .before .before .before .before .if1 .left), ← c .before .before .before .before .bit .ensures, ← c .before .before .before .bit2 .ensures, c .two .ensures)
+returns-2 c =
+    let reached : c .before .before .before .before .before .before .before .acts-as .result ≤ c .before .before .before .before .before .before .before .before .args .self .ticks + 1 = omega arith in
+    simp (← c .before .before .before .before .before .before .before .acts-as .ensures, le-leb _ _ reached, ← c .before .before .before .before .bit .ensures, ← c .before .before .before .bit2 .ensures, c .two .ensures)
 
 pub monitored-spec : {M : Type 1} → statement M
 monitored-spec =
     tie.close
     (tie.spec
-    add-ticks
     acts-as-requires
+    sub-if1
+    add-self
     quiet-requires
     returns
     bit-requires

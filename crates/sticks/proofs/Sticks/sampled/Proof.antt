@@ -1,11 +1,8 @@
 -- `sticks::Sticks::sampled` meets its contract.
 -- Assumes nothing.
-use mathlib.Core.Path.{subst}
 use borrow.Author.Needs.{needs}
 use Rattle.sticks.specs.Ticks.{sampled-in, sampled}
 use Rattle.sticks.proofs.Arms.{sample-quiet}
-use Rattle.protocol.specs.declared.StickMode.{StickMode}
-use Rattle.sticks.specs.Sticks.{IsSticks}
 use Rattle.sticks.proofs.Sticks.sampled.Statement.{statement}
 use Rattle.sticks.proofs.Sticks.sampled.Tie as tie
 
@@ -19,15 +16,15 @@ returns c = simp (c .before .if1 .taken) (c .quiet .ensures)
 enum-told : tie.Need-enum-told
 enum-told c = search needs
 
-gathered-requires : tie.Need-gathered-requires
-gathered-requires c κs = let p = c .before .before .before .pre in (p .0, (subst (λ (m : StickMode). IsSticks m (c .before .before .before .args .self)) (c .enum-told .given .1) (p .1 .0), p .1 .1))
+sample-taken-requires : tie.Need-sample-taken-requires
+sample-taken-requires c κs = search needs
 
 quiet-requires-2 : tie.Need-quiet-requires-2
 quiet-requires-2 c κs = search needs
 
 returns-2 : tie.Need-returns-2
 unfolding sampled sampled-in
-returns-2 c = simp (c .before .before .before .if1 .left, c .before .enum-told .given .1) (c .gathered .ensures)
+returns-2 c = simp (c .before .before .before .if1 .left, c .before .enum-told .given .1) (c .sample-taken .ensures)
 
 returns-3 : tie.Need-returns-3
 unfolding sampled
@@ -40,7 +37,7 @@ sampled-spec =
     quiet-requires
     returns
     enum-told
-    gathered-requires
+    sample-taken-requires
     quiet-requires-2
     returns-2
     returns-3)

@@ -1,12 +1,9 @@
 -- `sticks::Sticks::ticked` meets its contract.
 -- Assumes nothing.
-use mathlib.Core.Path.{subst}
 use borrow.Author.Needs.{needs}
-use Rattle.sticks.specs.Events.{steers}
+use Rattle.sticks.specs.Events.{heard}
 use Rattle.sticks.specs.Ticks.{ticked-in, ticked}
 use Rattle.sticks.proofs.Arms.{tick-quiet}
-use Rattle.protocol.specs.declared.StickMode.{StickMode}
-use Rattle.sticks.specs.Sticks.{IsSticks}
 use Rattle.sticks.proofs.Sticks.ticked.Statement.{statement}
 use Rattle.sticks.proofs.Sticks.ticked.Tie as tie
 
@@ -21,7 +18,7 @@ enum-known-mode : tie.Need-enum-known-mode
 enum-known-mode c = search needs
 
 monitored-requires : tie.Need-monitored-requires
-monitored-requires c κs = subst (λ (m : StickMode). IsSticks m (c .before .before .before .before .args .self)) (c .before .mode .given .1) (c .before .before .before .before .pre)
+monitored-requires c κs = search needs
 
 enum-known-mode-2 : tie.Need-enum-known-mode-2
 enum-known-mode-2 c = search needs
@@ -29,12 +26,12 @@ enum-known-mode-2 c = search needs
 is-heard-requires : tie.Need-is-heard-requires
 is-heard-requires c κs = search needs
 
-both-aged-requires : tie.Need-both-aged-requires
-both-aged-requires c κs = search needs
+axes-aged-requires : tie.Need-axes-aged-requires
+axes-aged-requires c κs = search needs
 
 returns-2 : tie.Need-returns-2
-unfolding ticked ticked-in steers
-returns-2 c = simp (c .before .before .before .before .before .before .if1 .left, c .before .before .before .before .mode2 .given .1, ← c .before .before .is-heard .ensures, c .before .if2 .taken) (c .both-aged .ensures)
+unfolding ticked ticked-in heard
+returns-2 c = simp (c .before .before .before .before .before .before .if1 .left, c .before .before .before .before .mode2 .given .1, ← c .before .before .is-heard .ensures, c .before .if2 .taken) (c .axes-aged .ensures)
 
 quiet-requires-2 : tie.Need-quiet-requires-2
 quiet-requires-2 c κs = search needs
@@ -47,7 +44,7 @@ unfolding ticked ticked-in
 returns-3 c = simp (c .before .before .before .before .if1 .left, c .before .before .mode .given .1) (c .monitored .ensures)
 
 returns-4 : tie.Need-returns-4
-unfolding ticked ticked-in steers
+unfolding ticked ticked-in heard
 returns-4 c = simp (c .before .before .before .before .before .before .if1 .left, c .before .before .before .before .mode2 .given .1, ← c .before .before .is-heard .ensures, c .before .if2 .left) (c .quiet2 .ensures)
 
 returns-5 : tie.Need-returns-5
@@ -64,7 +61,7 @@ ticked-spec =
     monitored-requires
     enum-known-mode-2
     is-heard-requires
-    both-aged-requires
+    axes-aged-requires
     returns-2
     quiet-requires-2
     quiet-requires-3

@@ -3,7 +3,7 @@
 use native.Mathlib.Omega.{arith}
 use borrow.Author.Needs.{needs}
 use Rattle.controller.specs.declared.Input.the-variants.{Byte}
-use Rattle.text.proofs.Fixed.{byte-open, byte-high, byte-low, byte-good}
+use Rattle.text.proofs.Fixed.{hex-some, hex-not, byte-open, byte-none, byte-good}
 use Rattle.text.proofs.kinds.byte_line.Statement.{statement}
 use Rattle.text.proofs.kinds.byte_line.Tie as tie
 
@@ -16,35 +16,29 @@ shared-slice-read-if2 c = search needs
 returns-2 : tie.Need-returns-2
 returns-2 c = byte-open Byte _ (λ h e. c .if2 .taken e)
 
-shared-slice-read-hex-digit : tie.Need-shared-slice-read-hex-digit
-shared-slice-read-hex-digit c = search needs
+shared-slice-read-hex-field : tie.Need-shared-slice-read-hex-field
+shared-slice-read-hex-field c = search needs
 
-hex-digit-requires : tie.Need-hex-digit-requires
-hex-digit-requires c κs = search needs
+shared-slice-read-hex-field-2 : tie.Need-shared-slice-read-hex-field-2
+shared-slice-read-hex-field-2 c = search needs
+
+hex-field-requires : tie.Need-hex-field-requires
+hex-field-requires c κs = search needs
+
+enum-known-byte : tie.Need-enum-known-byte
+enum-known-byte c = search needs
+
+enum-told : tie.Need-enum-told
+enum-told c = search needs
 
 returns-3 : tie.Need-returns-3
-returns-3 c = byte-high Byte _ _ (c .before .hex-digit .ensures) (c .if3 .taken)
-
-shared-slice-read-hex-digit-2 : tie.Need-shared-slice-read-hex-digit-2
-shared-slice-read-hex-digit-2 c = search needs
-
-hex-digit-requires-2 : tie.Need-hex-digit-requires-2
-hex-digit-requires-2 c κs = search needs
+returns-3 c =
+    let call = c .before .before .before in
+    let ends = call .before .before .before in
+    byte-good Byte _ (ends .before .before .if1 .left) (ends .if2 .left) _ (hex-some _ _ _ (call .hex-field .ensures) (c .before .byte .given .1))
 
 returns-4 : tie.Need-returns-4
-returns-4 c = byte-low Byte _ _ (c .before .hex-digit2 .ensures) (c .if4 .taken)
-
-mul-t7 : tie.Need-mul-t7
-mul-t7 c = search needs
-
-add-t10 : tie.Need-add-t10
-add-t10 c = search needs
-
-returns-5 : tie.Need-returns-5
-returns-5 c =
-    let high = c .before .before .before in
-    let ends = high .before .before .before in
-    byte-good Byte _ (ends .before .before .if1 .left) (ends .if2 .left) _ (high .before .hex-digit .ensures) (high .if3 .left) _ (c .before .hex-digit2 .ensures) (c .if4 .left)
+returns-4 c = byte-none Byte _ (hex-not _ _ (c .before .before .hex-field .ensures) (c .enum-told .given .1))
 
 pub byte-line-spec : {M : Type 1} → statement M
 byte-line-spec =
@@ -53,12 +47,10 @@ byte-line-spec =
     returns
     shared-slice-read-if2
     returns-2
-    shared-slice-read-hex-digit
-    hex-digit-requires
+    shared-slice-read-hex-field
+    shared-slice-read-hex-field-2
+    hex-field-requires
+    enum-known-byte
+    enum-told
     returns-3
-    shared-slice-read-hex-digit-2
-    hex-digit-requires-2
-    returns-4
-    mul-t7
-    add-t10
-    returns-5)
+    returns-4)

@@ -1,0 +1,18 @@
+// Questions of the stored tests, which the grammar of the text program cannot spell: each tells something of a state and changes none.
+ghost use Prim.Native.Nat.{_≤_};
+ghost use lib.ListN.{length};
+ghost use Rattle.output.specs.Writing.{Wrote};
+ghost use Rattle.controller.specs.State.{IsState, contents};
+ghost use Rattle.text.specs.Output.{line-room, output-line};
+use controller::State;
+
+// The line of output that tells the bytes which wait in the queue.
+pub fn tell_queue(state: State, number: u64, out: &mut [u8]) -> usize
+    requires { ⌜ IsState state ⌝ }
+    requires { ⌜ line-room (state .queue .len) ≤ length (now out) ⌝ }
+    ensures { λ r. ⌜ Wrote (output-line number 0 (contents (state .queue))) r (now (out .entry)) (now (out .exit)) ⌝ }
+{
+    let waiting = state.queue.len;
+    let bytes = state.queue.bytes;
+    text::write_line(number, 0, &bytes, waiting, out)
+}
