@@ -20,7 +20,7 @@ impl Core {
     //
     // The inputs of the protocol stand here one below the other, and an arm does three things: it asks a part for what the input comes
     // to, hands the bytes to a writer of `send`, and stores the part as it then is. It is long for a reason: a function for each kind
-    // would take the core by value and hand it back, which costs more than what is done to it (docs/DECISIONS.md has the numbers).
+    // would take the core by value and hand it back, which costs instructions (docs/DECISIONS.md has what was measured).
     pub fn apply(
         mut self,
         input: Input,
