@@ -1,4 +1,4 @@
--- The three demands over calls of the step in code, each known by its promise alone: calls come to what the definition says.
+-- The demands, and that no motion is lost or doubled, over calls of the step in code, each known by its promise alone: calls come to what the definition says.
 -- Assumes nothing.
 use Prim.Native.Nat.{ℕ}
 use native.Mathlib.Omega.{arith}
@@ -6,16 +6,14 @@ use mathlib.Core.Path.{_≡_, refl, sym, ap, ap₂, _∙_, subst}
 use mathlib.Core.Bool.{cond, _&&_}
 use mathlib.Core.List.{List, [], _∷_, map}
 use lib.Dec.{eqb}
-use lib.ListN.{length, take}
-use lib.Seq.{take-append-seam, drop-append-seam}
+use lib.ListN.{length}
+use lib.Seq.{drop-append-seam}
 use Rattle.output.specs.Writing.{over}
 use Rattle.output.proofs.Writing.{length-over}
 use Rattle.protocol.specs.Replies.{in-order}
 use Rattle.controller.specs.declared.State.{State}
-use Rattle.controller.specs.declared.Input.{Input}
-use Rattle.controller.specs.declared.Stepped.{Stepped}
 use Rattle.controller.specs.State.{IsState, contents}
-use Rattle.controller.specs.Step.{number, Did, due, told, verdict, step}
+use Rattle.controller.specs.Step.{due, step}
 use Rattle.controller.specs.Sequences.{after, history, done, resets-by}
 use Rattle.controller.proofs.Answers.{step-fits, did-answer, did-write}
 use Rattle.controller.proofs.Delivery.{step-drops}
@@ -23,10 +21,12 @@ use Rattle.controller.proofs.States.{keeps}
 use Rattle.demands.specs.Demand1.{ByTable}
 use Rattle.demands.specs.Demand2.{Flow, flow, flows-in}
 use Rattle.demands.specs.Demand3.{Seen, seen, seen-in, Asking, SendingBack}
-use Rattle.demands.specs.Calls.{Call, Promised, Calls, answer-of, turn-of, flow-of, flows-of, seen-of, Demand1-of-calls, Demand2-of-calls, Demand2-whole-of-calls, Demand3-of-calls}
+use Rattle.demands.specs.Conservation.{Arrival, arrival, arrivals-in, AllUndisturbed}
+use Rattle.demands.specs.Calls.{Call, Promised, Calls, answer-of, turn-of, flow-of, flows-of, seen-of, arrival-of, arrivals-of, Demand1-of-calls, Demand2-of-calls, Demand2-whole-of-calls, Demand3-of-calls, Conservation-of-calls, NoneDropped-of-calls}
 use Rattle.demands.proofs.Demand1.{demand-1}
 use Rattle.demands.proofs.Demand2.{demand-2, demand-2-whole}
 use Rattle.demands.proofs.PutBack.{put-back}
+use Rattle.demands.proofs.Conservation.{conservation, none-dropped}
 
 -- a call, as a step of a sequence
 module _ (s : State) (c : Call) (p : Promised s c) where
@@ -39,20 +39,25 @@ module _ (s : State) (c : Call) (p : Promised s c) where
   flow-is : flow-of s c ≡ flow (done s (turn-of c))
   flow-is = λ i. record { due = step s (c .input) (length (c .before)) .packets; dropped = dropped-is i; written = did-write s (c .input) p i }
 
+  arrival-is : arrival-of s c ≡ arrival s (turn-of c)
+  arrival-is = λ i. record { state = s; input = c .input; answer = did-answer s (c .input) p i }
+
 -- calls one after the other come to what the definition says of the sequence
 record Ran (s : State) (cs : List Call) (t : State) : Type 0 where
   seen-then : map seen-of cs ≡ seen-in s (map turn-of cs)
   flows-then : flows-of s cs ≡ flows-in s (map turn-of cs)
+  arrivals-then : arrivals-of s cs ≡ arrivals-in s (map turn-of cs)
   state-then : t ≡ after s (map turn-of cs)
 
 ran : (s t : State) (cs : List Call) → Calls s cs t → Ran s cs t
-unfolding history after flows-of
-ran s t [] e = record { seen-then = refl; flows-then = refl; state-then = e }
+unfolding history after flows-of arrivals-of arrivals-in
+ran s t [] e = record { seen-then = refl; flows-then = refl; arrivals-then = refl; state-then = e }
 ran s t (c ∷ cs) (p, k) =
     let r = ran (c .result .state) t cs k in
     record {
       seen-then = ap₂ (λ (d : Seen) (l : List Seen). d ∷ l) (seen-is s c p) (r .seen-then ∙ ap (λ (x : State). seen-in x (map turn-of cs)) (p .state));
       flows-then = ap₂ (λ (d : Flow) (l : List Flow). d ∷ l) (flow-is s c p) (r .flows-then ∙ ap (λ (x : State). flows-in x (map turn-of cs)) (p .state));
+      arrivals-then = ap₂ (λ (d : Arrival) (l : List Arrival). d ∷ l) (arrival-is s c p) (r .arrivals-then ∙ ap (λ (x : State). arrivals-in x (map turn-of cs)) (p .state));
       state-then = r .state-then ∙ ap (λ (x : State). after x (map turn-of cs)) (p .state);
     }
 
@@ -96,3 +101,14 @@ put-back-calls s s′ t t′ asking sending kept S T A B x y =
     ∙ put-back s (map turn-of asking) kept t (map turn-of sending) S T
     (subst (λ (h : List Seen). Asking s h kept) (a .seen-then) x)
     (subst (λ (h : List Seen). SendingBack t h (in-order (s .settings .port0) kept)) (b .seen-then) y)
+
+-- A14, for calls of the step in code
+pub conservation-calls : Conservation-of-calls
+conservation-calls a s t cs k u =
+    let r = ran s t cs k in
+    rw (r .arrivals-then, r .flows-then, r .state-then) (conservation a s (map turn-of cs) (subst AllUndisturbed (r .arrivals-then) u))
+
+pub none-dropped-calls : NoneDropped-of-calls
+none-dropped-calls s t cs k u =
+    let r = ran s t cs k in
+    rw (r .flows-then) (none-dropped s (map turn-of cs) (subst AllUndisturbed (r .arrivals-then) u))

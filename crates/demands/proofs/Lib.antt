@@ -4,11 +4,13 @@ pub mod Demand2
 pub mod Core
 pub mod Asking
 pub mod PutBack
+pub mod Conservation
 pub mod Calls
 pub mod Witness3
 pub mod Rules
 pub mod Sessions
 pub mod MostDue
+pub mod MotionWitness
 pub mod Readings
 pub mod Idling
 pub mod ShutOut

@@ -24,7 +24,7 @@ use Rattle.sticks.specs.Ticks as ticks
 use Rattle.sticks.specs.Commands.{monitoring-left, mouse-commanded}
 use Rattle.sticks.specs.Commands as commands
 use Rattle.controller.specs.State.{queue-of}
-use Rattle.controller.specs.Host.{mouse-effect, stick-effect, other-effect, effect, acted, reset-due, executes, host-due, resets}
+use Rattle.controller.specs.Host.{mouse-effect, stick-effect, other-effect, effect, acted, reset-due, executes, host-due, command-executed}
 use Rattle.controller.specs.Events.{happened, key-packets, event, event-due}
 use Rattle.controller.specs.Step.{due, in-range, out-of-range, queue-full, too-far, motion-full, buffer-short, verdict, told, step}
 use Rattle.controller.specs.Sequences.{after, history, all-written}
@@ -67,7 +67,7 @@ unfolding both monitored interval repeated axis-aged axes-aged ticked-in ticked 
 of-ticks = tt
 
 of-commands : Unit {0}
-unfolding monitoring-left mouse-commanded commands.commanded mouse-effect stick-effect other-effect effect acted reset-due executes host-due resets
+unfolding monitoring-left mouse-commanded commands.commanded mouse-effect stick-effect other-effect effect acted reset-due executes host-due command-executed
 of-commands = tt
 
 of-steps : Unit {0}

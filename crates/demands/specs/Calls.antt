@@ -1,5 +1,5 @@
--- The three demands over calls of the step in code, each known by its promise alone. Answer, bytes and state are read off what a call handed back;
--- what fell due is the definition's.
+-- The three demands, and that no motion is lost or doubled, over calls of the step in code, each known by its promise alone. Answer, bytes and state are
+-- read off what a call handed back; what fell due is the definition's.
 use Prim.Native.Nat.{ℕ, _≤_}
 use mathlib.Core.Path.{_≡_}
 use mathlib.Core.Bool.{cond, _&&_}
@@ -8,6 +8,7 @@ use lib.Dec.{eqb}
 use lib.ListN.{length, take, drop}
 use Rattle.protocol.specs.declared.Inquiry.{Inquiry}
 use Rattle.protocol.specs.Replies.{in-order}
+use Rattle.mouse.specs.Totals.{Axis}
 use Rattle.controller.specs.declared.State.{State}
 use Rattle.controller.specs.declared.Input.{Input}
 use Rattle.controller.specs.declared.Stepped.{Stepped}
@@ -15,8 +16,9 @@ use Rattle.controller.specs.State.{IsState, contents, most-due}
 use Rattle.controller.specs.Step.{number, Did, step, IsInput}
 use Rattle.controller.specs.Sequences.{Turn, AreInputs, resets-by}
 use Rattle.demands.specs.Demand1.{ByTable}
-use Rattle.demands.specs.Demand2.{Flow, InOrder, Whole}
+use Rattle.demands.specs.Demand2.{Flow, all-dropped, InOrder, Whole}
 use Rattle.demands.specs.Demand3.{Seen, Asking, SendingBack}
+use Rattle.demands.specs.Conservation.{Arrival, AllUndisturbed, Conserved}
 
 -- one call: the input, the lent buffer before it, what it handed back, and the buffer after it
 pub record Call : Type 0 where
@@ -103,3 +105,21 @@ Demand3-of-calls =
     Asking s (map seen-of asking) kept →
     SendingBack t (map seen-of sending) (in-order (s .settings .port0) kept) →
     t′ .settings ≡ s .settings
+
+-- the input of a call from the state s, as it came
+abbrev pub arrival-of : State → Call → Arrival
+arrival-of s c = record { state = s; input = c .input; answer = answer-of c }
+
+-- of each call, each from the state that the one before it gave back
+unfoldable pub arrivals-of : State → List Call → List Arrival
+arrivals-of s [] = []
+arrivals-of s (c ∷ cs) = arrival-of s c ∷ arrivals-of (c .result .state) cs
+
+-- A14 for calls: as Conservation
+abbrev pub Conservation-of-calls : Type 0
+Conservation-of-calls =
+    (a : Axis) (s t : State) (cs : List Call) → Calls s cs t → AllUndisturbed (arrivals-of s cs) → Conserved a s (arrivals-of s cs) (flows-of s cs) t
+
+-- A14 for calls: as NoneDropped
+abbrev pub NoneDropped-of-calls : Type 0
+NoneDropped-of-calls = (s t : State) (cs : List Call) → Calls s cs t → AllUndisturbed (arrivals-of s cs) → all-dropped (flows-of s cs) ≡ []

@@ -42,6 +42,11 @@ unfoldable pub all-due : List Flow → List Packet
 all-due [] = []
 all-due (f ∷ fs) = f .due ++ all-due fs
 
+-- all bytes that a reset dropped, in order
+unfoldable pub all-dropped : List Flow → List ℕ
+all-dropped [] = []
+all-dropped (f ∷ fs) = f .dropped ++ all-dropped fs
+
 -- all bytes that left the queue or the controller: dropped or written, in order
 unfoldable pub all-gone : List Flow → List ℕ
 all-gone [] = []

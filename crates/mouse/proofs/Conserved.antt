@@ -4,21 +4,22 @@ use Prim.Native.Nat.{ℕ, zero, suc, _≤_, max}
 use native.Mathlib.Omega.{arith}
 use mathlib.Core.Path.{_≡_, refl, sym, ap, ap₂, _∙_}
 use mathlib.Core.Bool.{Bool, true, false, cond, not}
-use mathlib.Core.List.{List, _++_}
+use mathlib.Core.List.{List, [], _∷_, _++_}
 use lib.Dec.{eqb}
 use lib.ListN.{length}
-use lib.IntN.{ℤ, pos, negℤ, _+ℤ_}
+use lib.IntN.{ℤ, pos, negℤ, _+ℤ_, +ℤ-idl, +ℤ-idr, +ℤ-assoc}
 use borrow.Author.Tests.{ne-eqb}
 use Rattle.output.specs.Packets.{Packet}
 use Rattle.output.proofs.Cases.{both-ways}
 use Rattle.motion.specs.declared.Motion.{Motion}
 use Rattle.motion.specs.declared.Motions.{Motions}
 use Rattle.motion.specs.Motion.{value, part, after-part, byte, signed-byte, packets-needed, opposite, of-signed}
-use Rattle.motion.proofs.Difference.{plain, itself, _⊕_, equal}
 use Rattle.motion.proofs.Integers.{value-of-signed, value-sum, value-opposite}
 use Rattle.motion.proofs.Parts.{part-and-rest, byte-says, all-sent, one-fewer}
 use Rattle.protocol.specs.declared.MouseMode.{MouseMode}
 use Rattle.protocol.specs.declared.MouseMode.the-variants.{Relative, Absolute, Keycode}
+use Rattle.protocol.specs.declared.MouseCommand.{MouseCommand}
+use Rattle.protocol.specs.declared.MouseCommand.the-variants.{SetAction, SetRelative, SetAbsolute, SetKeycode, SetThreshold, SetScale, ReportPosition, LoadPosition, OriginBottom, OriginTop}
 use Rattle.protocol.specs.declared.Axes.{Axes}
 use Rattle.protocol.specs.declared.Settings.{Settings}
 use Rattle.mouse.specs.declared.Mouse.{Mouse}
@@ -26,9 +27,10 @@ use Rattle.mouse.specs.declared.Side.{Side}
 use Rattle.mouse.specs.Mouse.{live, with-held}
 use Rattle.mouse.specs.Reports.{MouseDue, packets-due, quiet, send-all, report}
 use Rattle.mouse.specs.Sending.{split, packets-for, packets-sent, nothing-sent}
-use Rattle.mouse.specs.Moves.{incoming, added-to-held, either-reaches, motion-due, released, live-motion, moves}
+use Rattle.mouse.specs.Moves.{incoming, added-to-held, either-reaches, motion-due, released, resumed, live-motion, moves}
 use Rattle.mouse.specs.Buttons.{level, with-level, as-keys, action-reports, live-button, presses}
-use Rattle.mouse.specs.Totals.{Axis, AlongX, AlongY, along, said, brings}
+use Rattle.mouse.specs.Commands.{commanded}
+use Rattle.mouse.specs.Totals.{Axis, AlongX, AlongY, along, says, said, brings}
 use Rattle.mouse.proofs.Dues.{none-sent, all-due}
 use Rattle.mouse.proofs.States.{level-held}
 
@@ -38,10 +40,12 @@ Keeps a m d = said a (packets-due d) +ℤ value (along a (d .mouse .held)) ≡ v
 
 -- where nothing of held motion is sent, packets that say nothing of motion leave what is held
 nothing-said : (a : Axis) (ps : List Packet) {z : ℤ} → said a ps ≡ pos 0 → said a (packets-sent nothing-sent ++ ps) +ℤ z ≡ z
-nothing-said a ps {z} e = rw (none-sent, e) (equal (plain 0 ⊕ itself z) (itself z) (omega arith))
+nothing-said a ps {z} e = rw (none-sent, e) (+ℤ-idl z)
 
-nothing-left : (z : ℤ) → z +ℤ pos 0 ≡ z
-nothing-left z = equal (itself z ⊕ plain 0) (itself z) (omega arith)
+-- packets one after the other say what they say together
+pub said-append : (a : Axis) (ps qs : List Packet) → said a (ps ++ qs) ≡ said a ps +ℤ said a qs
+said-append a [] qs = sym (+ℤ-idl (said a qs))
+said-append a (p ∷ ps) qs = ap (λ (z : ℤ). says a p +ℤ z) (said-append a ps qs) ∙ sym (+ℤ-assoc (says a p) (said a ps) (said a qs))
 
 -- one packet of a split, and then the rest
 one-part : (m : Motion) (rest : ℤ) → rest ≡ value (after-part m) → signed-byte (byte (part m)) +ℤ rest ≡ value m
@@ -68,7 +72,7 @@ none-held AlongY least m = refl
 
 -- sending all says what was held, and holds nothing
 pub send-all-keeps : (a : Axis) (least : ℕ) (m : Mouse) → Keeps a m (send-all least m)
-send-all-keeps a least m = ap₂ _+ℤ_ (ap (said a) (all-due least m)) (none-held a least m) ∙ nothing-left _ ∙ split-says a _ _ (m .held) (enough a least (m .held))
+send-all-keeps a least m = ap₂ _+ℤ_ (ap (said a) (all-due least m)) (none-held a least m) ∙ +ℤ-idr _ ∙ split-says a _ _ (m .held) (enough a least (m .held))
 
 -- held motion that is due in relative mode is sent, or stays held
 due-keeps : (a : Axis) (threshold : Axes) (m : Mouse) → Keeps a m (motion-due Relative threshold m)
@@ -113,12 +117,31 @@ unfolding moves
 moves-dropped paused σ dx dy m l = rw l
 
 -- a resume in relative mode says and leaves held what was held
-pub released-conserve : (a : Axis) (σ : Settings) (m : Mouse) → σ .mouse ≡ Relative → said a (packets-due (released σ m)) +ℤ value (along a (released σ m .mouse .held)) ≡ value (along a (m .held))
+pub released-conserve : (a : Axis) (σ : Settings) (m : Mouse) → σ .mouse ≡ Relative → Keeps a m (released σ m)
 unfolding released
 released-conserve a σ m e =
     both-ways (Keeps a m) (live σ)
     (λ l. rw e (due-keeps a (σ .threshold) m))
     (λ l. nothing-said a _ refl)
+
+-- and so does a command that resumes if output is paused
+pub resumed-conserve : (a : Axis) (paused : Bool) (σ : Settings) (m : Mouse) → σ .mouse ≡ Relative → Keeps a m (resumed paused σ m)
+resumed-conserve a true σ m e = released-conserve a σ m e
+resumed-conserve a false σ m e = nothing-said a _ refl
+
+-- a command other than 0x08, 0x09 and 0x0A says nothing of motion, and leaves what is held
+pub commanded-conserve : (a : Axis) (c : MouseCommand) (ps : List ℕ) (mode : MouseMode) (m : Mouse) → (c ≡ SetRelative → ⊥) → (c ≡ SetAbsolute → ⊥) → (c ≡ SetKeycode → ⊥) → Keeps a m (commanded c ps mode m)
+unfolding commanded report
+commanded-conserve a SetAction ps mode m r b k = nothing-said a _ refl
+commanded-conserve a SetRelative ps mode m r b k = absurd (r refl)
+commanded-conserve a SetAbsolute ps mode m r b k = absurd (b refl)
+commanded-conserve a SetKeycode ps mode m r b k = absurd (k refl)
+commanded-conserve a SetThreshold ps mode m r b k = nothing-said a _ refl
+commanded-conserve a SetScale ps mode m r b k = nothing-said a _ refl
+commanded-conserve a ReportPosition ps mode m r b k = nothing-said a _ refl
+commanded-conserve a LoadPosition ps mode m r b k = nothing-said a _ refl
+commanded-conserve a OriginBottom ps mode m r b k = nothing-said a _ refl
+commanded-conserve a OriginTop ps mode m r b k = nothing-said a _ refl
 
 live-button-keeps : (a : Axis) (mode : MouseMode) (action : ℕ) (side : Side) (down : Bool) (m : Mouse) → Keeps a m (live-button mode action side down m)
 unfolding live-button report
@@ -130,7 +153,7 @@ live-button-keeps a (Absolute maximum) action side down m =
 live-button-keeps a (Keycode delta) action side down m = nothing-said a _ refl
 
 -- a button event, in every mode: what it says and leaves held is what was held
-pub presses-conserve : (a : Axis) (σ : Settings) (side : Side) (down : Bool) (m : Mouse) → said a (packets-due (presses σ side down m)) +ℤ value (along a (presses σ side down m .mouse .held)) ≡ value (along a (m .held))
+pub presses-conserve : (a : Axis) (σ : Settings) (side : Side) (down : Bool) (m : Mouse) → Keeps a m (presses σ side down m)
 unfolding presses
 presses-conserve a σ side down m =
     let now = with-level side down m in

@@ -1,3 +1,4 @@
+pub mod Sends
 pub mod States
 pub mod Laws
 pub mod Lengths

@@ -3,6 +3,7 @@
 
 use crate::command::Command;
 use crate::mouse::Button;
+use crate::rules::Sending;
 use crate::state::{JoystickMode, MouseMode, Role, State, Velocity};
 
 /// A host byte or an event, its numbers as they came.
@@ -162,7 +163,7 @@ impl State {
                 return Err(Refusal::MotionFull);
             }
         } else {
-            mouse.send_due(&self.rules, out);
+            mouse.send_due(Sending::Once, &self.rules, out);
             check_room(lent, out)?;
         }
         self.mouse = mouse;
@@ -251,7 +252,7 @@ impl State {
         if resumes {
             out.extend_from_slice(self.queue.bytes());
             if self.mouse_is_live() {
-                mouse.send_due(&self.rules, out);
+                mouse.send_due(self.rules.at_resume, &self.rules, out);
             }
         }
         self.push_answer(command.code(), out);

@@ -4,7 +4,8 @@
 //! `controller::step` takes one input in a state; `text` reads and writes the
 //! lines of the text program. The rest serves the comparison with another
 //! program: sessions made at random, those that the papers state, those for
-//! sentences of document 01, and questions about the state.
+//! sentences of document 01, and questions about the state. `ledger` stands
+//! apart: it adds up motion and packets, and uses nothing of the controller.
 
 pub mod clock;
 pub mod command;
@@ -12,11 +13,14 @@ pub mod controller;
 pub mod coverage;
 pub mod generator;
 pub mod joysticks;
+pub mod ledger;
 pub mod limits;
 pub mod mouse;
 pub mod papers;
+pub mod process;
 pub mod program;
 pub mod question;
+pub mod random;
 pub mod rules;
 pub mod state;
 pub mod text;

@@ -1,6 +1,6 @@
 //! "The mouse."
 
-use crate::rules::Rules;
+use crate::rules::{Rules, Sending};
 use crate::state::{acting, arrow, MouseMode, X, Y};
 
 /// The button action that makes keys of the buttons.
@@ -90,11 +90,11 @@ impl Mouse {
     }
 
     /// Sends the held motion that is due at a motion event or at a resume.
-    pub fn send_due(&mut self, rules: &Rules, out: &mut Vec<u8>) {
+    pub fn send_due(&mut self, sending: Sending, rules: &Rules, out: &mut Vec<u8>) {
         match self.mode {
             MouseMode::Relative => {
                 if self.reaches_threshold(rules) {
-                    self.send_all(out);
+                    self.send_held(sending, out);
                 }
             }
             MouseMode::Absolute { .. } => {} // "in absolute mode none is due"
@@ -107,6 +107,20 @@ impl Mouse {
         [X, Y].iter().any(|&axis| {
             self.held[axis].abs() >= acting(self.threshold[axis]) + rules.past_threshold
         })
+    }
+
+    /// Sends all held motion, or does what a wrong variant does with it.
+    fn send_held(&mut self, sending: Sending, out: &mut Vec<u8>) {
+        let (held, sent) = (self.held, out.len());
+        if sending == Sending::Dropped {
+            self.held = [0, 0];
+        }
+        self.send_all(out);
+        match sending {
+            Sending::Once | Sending::Dropped => {}
+            Sending::AndKept => self.held = held,
+            Sending::FirstPacket => out.truncate(sent + 3),
+        }
     }
 
     /// "One packet is 0xF8 + 2·left + right, X, Y in two's complement. The
@@ -160,7 +174,7 @@ impl Mouse {
         } else if !absolute {
             // "A button with action 0 to 3 sends all held motion with the new
             // levels, at least one packet, paused or not."
-            self.send_all(out);
+            self.send_held(rules.at_button, out);
         } else if self.action & if down { 1 } else { 2 } != 0 {
             // "then with action bit 0 a press, with bit 1 a release, sends the
             // same report without clearing"

@@ -1,10 +1,24 @@
-//! The numbers of document 01 that a deliberately wrong variant changes.
-//! A comparison that finds no difference is worth something only if it finds
-//! these.
+//! What a deliberately wrong variant changes: numbers of document 01, and what
+//! becomes of held motion that is sent. A comparison that finds no difference,
+//! and a ledger that adds up, are worth something only if they find these.
 
 use crate::limits::{HELD_LIMIT, QUEUE_ROOM};
 
-/// The numbers by which a state is stepped.
+/// What becomes of held motion that a button or a resume sends.
+#[derive(Clone, Copy, Debug, PartialEq, Eq)]
+pub enum Sending {
+    /// "all is sent", and is held no more.
+    Once,
+    /// It is sent and stays held. "Reading held motion for a button packet and
+    /// clearing it elsewhere" is a trap that document 01 names.
+    AndKept,
+    /// It is dropped, and a packet without motion is sent.
+    Dropped,
+    /// One packet takes what it can, and the rest is lost.
+    FirstPacket,
+}
+
+/// The rules by which a state is stepped.
 #[derive(Clone, Copy, Debug, PartialEq, Eq)]
 pub struct Rules {
     /// How far past its threshold an axis must be to be sent: 0, since "if
@@ -18,6 +32,10 @@ pub struct Rules {
     pub leap_day: u8,
     /// How far held motion may go either way.
     pub held_limit: i32,
+    /// "A button with action 0 to 3 sends all held motion"
+    pub at_button: Sending,
+    /// "then held motion that is due"
+    pub at_resume: Sending,
 }
 
 impl Rules {
@@ -28,6 +46,8 @@ impl Rules {
         queue_limit: QUEUE_ROOM,
         leap_day: 29,
         held_limit: HELD_LIMIT,
+        at_button: Sending::Once,
+        at_resume: Sending::Once,
     };
 
     /// Variant `number`, wrong in one place; any other number is the document.
@@ -39,6 +59,10 @@ impl Rules {
             3 => rules.queue_limit = QUEUE_ROOM - 1,
             4 => rules.leap_day = 28,
             5 => rules.held_limit = HELD_LIMIT - 1,
+            6 => rules.at_button = Sending::AndKept,
+            7 => rules.at_resume = Sending::AndKept,
+            8 => rules.at_button = Sending::Dropped,
+            9 => rules.at_resume = Sending::FirstPacket,
             _ => {}
         }
         rules

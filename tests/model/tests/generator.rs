@@ -112,7 +112,7 @@ fn questions_are_asked_where_they_show_something() {
 fn the_wrong_variants_are_seen() {
     let text = session(1, 100_000, Format::Text);
     let right = played(&text, Rules::DOCUMENT);
-    for number in 1..=5 {
+    for number in 1..=9 {
         assert_ne!(played(&text, Rules::wrong(number)), right);
     }
     assert_eq!(played(&text, Rules::wrong(0)), right);

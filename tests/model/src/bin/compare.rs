@@ -4,11 +4,12 @@
 //!
 //! On a difference the session is shortened while the difference stays.
 
-use std::io::{Read, Write};
-use std::process::{exit, Command, Stdio};
+use std::io::Write;
+use std::process::exit;
 
 use model::coverage::answer_counts;
 use model::generator::session;
+use model::process::output_of;
 use model::program::Format;
 
 const USAGE: &str = "usage: compare --ours PROGRAM --theirs PROGRAM \
@@ -52,7 +53,10 @@ impl Task {
 
     /// The outputs of both programs.
     fn outputs(&self, session: &[u8]) -> (Vec<u8>, Vec<u8>) {
-        (run(&self.ours, session), run(&self.theirs, session))
+        (
+            output_of(&self.ours, session),
+            output_of(&self.theirs, session),
+        )
     }
 
     fn differs(&self, lines: &[&[u8]]) -> bool {
@@ -115,34 +119,6 @@ impl Task {
             line_of(&theirs, place),
         )
     }
-}
-
-/// Runs a program, with words after its name as its arguments.
-fn run(program: &str, input: &[u8]) -> Vec<u8> {
-    let mut words = program.split_whitespace();
-    let child = Command::new(words.next().unwrap_or_default())
-        .args(words)
-        .stdin(Stdio::piped())
-        .stdout(Stdio::piped())
-        .spawn();
-    let mut child = child.unwrap_or_else(|error| {
-        eprintln!("{program}: {error}");
-        exit(2);
-    });
-    let (stdin, stdout) = (child.stdin.take(), child.stdout.take());
-    let mut output = Vec::new();
-    std::thread::scope(|scope| {
-        // A program that ends early is seen by what its output lacks.
-        scope.spawn(|| stdin.map(|mut pipe| pipe.write_all(input)));
-        let _ = stdout.map(|mut pipe| pipe.read_to_end(&mut output));
-    });
-    // How a program ended is part of what it gave.
-    match child.wait() {
-        Ok(status) if status.success() => {}
-        Ok(status) => output.extend(format!("({status})\n").bytes()),
-        Err(error) => output.extend(format!("({error})\n").bytes()),
-    }
-    output
 }
 
 /// The number of the first line, from 0, that is not the same in both.
