@@ -139,9 +139,9 @@ module _ (a : Axis) where
   effect-adds Reset ps σ m k t h = nothing-due m
   effect-adds (OfMouse c) ps σ m k t h =
       adds-nothing
-      (commanded-conserve a c ps (σ .mouse) m (λ e. h .relative (ap OfMouse e)) (λ e. h .absolute (ap OfMouse e)) (λ e. h .keycode (ap OfMouse e)))
+      (commanded-conserve a c ps (σ .mouse) m (λ e. h .no-relative (ap OfMouse e)) (λ e. h .no-absolute (ap OfMouse e)) (λ e. h .no-keycode (ap OfMouse e)))
   effect-adds (OfStick c) ps σ m k t h = stays m (of-commanded Mute sticks-mute c (σ .stick) k)
-  effect-adds (OfOther c) ps σ m k t h = other-adds c ps m k t (λ e. h .mouse-off (ap OfOther e))
+  effect-adds (OfOther c) ps σ m k t h = other-adds c ps m k t (λ e. h .no-mouse-off (ap OfOther e))
   effect-adds (Inquire q) ps σ m k t h = stays m (of-one (reply-mute q σ))
 
   -- a resume, if there is one, and then the command
@@ -158,7 +158,7 @@ module _ (a : Axis) where
   executes-adds Nothing ps s r h = acted-adds Nothing ps s r h
   executes-adds Memory ps s r h = acted-adds Memory ps s r h
   executes-adds Pause ps s r h = nothing-due (s .mouse)
-  executes-adds Reset ps s r h = absurd (h .reset refl)
+  executes-adds Reset ps s r h = absurd (h .no-reset refl)
   executes-adds (OfMouse c) ps s r h = acted-adds (OfMouse c) ps s r h
   executes-adds (OfStick c) ps s r h = acted-adds (OfStick c) ps s r h
   executes-adds (OfOther c) ps s r h = acted-adds (OfOther c) ps s r h
@@ -230,7 +230,7 @@ not-reset : (c : Meaning) → Spared c → is-reset c ≡ false
 not-reset Nothing h = refl
 not-reset Memory h = refl
 not-reset Pause h = refl
-not-reset Reset h = absurd (h .reset refl)
+not-reset Reset h = absurd (h .no-reset refl)
 not-reset (OfMouse c) h = refl
 not-reset (OfStick c) h = refl
 not-reset (OfOther c) h = refl

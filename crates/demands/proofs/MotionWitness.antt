@@ -83,11 +83,11 @@ differs c d h f e = true≢false (sym h ∙ ap is-spared e ∙ f)
 spared-is : (c : Meaning) → is-spared c ≡ true → Spared c
 unfolding is-spared mouse-spared other-spared
 spared-is c h = record {
-  reset = differs c Reset h refl;
-  relative = differs c (OfMouse SetRelative) h refl;
-  absolute = differs c (OfMouse SetAbsolute) h refl;
-  keycode = differs c (OfMouse SetKeycode) h refl;
-  mouse-off = differs c (OfOther MouseOff) h refl;
+  no-reset = differs c Reset h refl;
+  no-relative = differs c (OfMouse SetRelative) h refl;
+  no-absolute = differs c (OfMouse SetAbsolute) h refl;
+  no-keycode = differs c (OfMouse SetKeycode) h refl;
+  no-mouse-off = differs c (OfOther MouseOff) h refl;
 }
 
 passes-is : (r : Arrival) → passes r ≡ true → Undisturbed r

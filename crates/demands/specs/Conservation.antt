@@ -38,11 +38,11 @@ arrivals-in s (t ∷ ts) = arrival s t ∷ arrivals-in (step s (t .input) (t .le
 
 -- "no reset, mouse mode or mouse-off command": not 0x80 0x01; 0x08, 0x09, 0x0A; 0x12
 pub record Spared (c : Meaning) : Type 0 where
-  pub reset : c ≡ Reset → ⊥
-  pub relative : c ≡ OfMouse SetRelative → ⊥
-  pub absolute : c ≡ OfMouse SetAbsolute → ⊥
-  pub keycode : c ≡ OfMouse SetKeycode → ⊥
-  pub mouse-off : c ≡ OfOther MouseOff → ⊥
+  pub no-reset : c ≡ Reset → ⊥
+  pub no-relative : c ≡ OfMouse SetRelative → ⊥
+  pub no-absolute : c ≡ OfMouse SetAbsolute → ⊥
+  pub no-keycode : c ≡ OfMouse SetKeycode → ⊥
+  pub no-mouse-off : c ≡ OfOther MouseOff → ⊥
 
 -- what is asked of each input
 pub record Undisturbed (r : Arrival) : Type 0 where
