@@ -18,8 +18,6 @@ use Rattle.clock.specs.declared.Clock.{Clock}
 use Rattle.protocol.specs.declared.Meaning.{Meaning}
 use Rattle.protocol.specs.declared.Received.{Received}
 use Rattle.protocol.specs.declared.Settings.{Settings}
-use Rattle.protocol.specs.Codes.{meaning-of}
-use Rattle.protocol.specs.Reading.{feed, received-of}
 use Rattle.protocol.specs.Commands.{executed, sets}
 use Rattle.mouse.specs.declared.Mouse.{Mouse}
 use Rattle.mouse.specs.declared.Moved.{Moved}
@@ -34,6 +32,7 @@ use Rattle.mouse.proofs.Dues.{sent-due, moves-others}
 use Rattle.sticks.specs.declared.Sticks.{Sticks}
 use Rattle.sticks.specs.declared.SticksTold.{SticksTold}
 use Rattle.sticks.specs.Sticks.{SticksDue, told-of}
+use Rattle.keys.specs.declared.Keys.{Keys}
 use Rattle.controller.specs.declared.Queue.{Queue}
 use Rattle.controller.specs.declared.Stepped.{Stepped}
 use Rattle.controller.specs.declared.State.{State}
@@ -42,19 +41,18 @@ use Rattle.controller.specs.declared.Input.{Input}
 use Rattle.controller.specs.declared.Input.the-variants.{Byte, Key}
 use Rattle.controller.specs.declared.Answer.the-variants.{Taken, OutOfRange, QueueFull, MotionFull, BufferShort}
 use Rattle.controller.specs.State.{IsState, contents, queue-of, queue-room, empty-queue, reset-but}
-use Rattle.controller.specs.Host.{Effect, effect, is-pause, is-reset}
-use Rattle.controller.specs.Events.{event, event-due, happened, of-sticks, of-mouse, key-packets}
-use Rattle.controller.specs.Handing.{acted-of}
+use Rattle.controller.specs.Host.{Effect, is-reset, reset-packets}
+use Rattle.controller.specs.Events.{event, event-due, happened, map-after, of-sticks, of-mouse, key-packets}
 use Rattle.controller.specs.Step.{due, IsInput, in-range, too-far, motion-full, Did}
 use Rattle.controller.proofs.Answers.{effect-on, refused-did, taken-did, verdict-range, verdict-motion, paused-full, paused-taken, sent-taken, sent-short}
 use Rattle.controller.proofs.Lengths.{queue-small}
 use Rattle.controller.proofs.Results.{queue-grown, sent-bytes, queued-bytes, own-short, own-room}
-use Rattle.controller.proofs.Hosts.{Completes, Acts, stage-lengths, acted-did, acted-short-did}
+use Rattle.controller.proofs.Hosts.{Completes, Acts, stage-lengths, acted-did, acted-short-did, reset-did, reset-short-did}
 use Rattle.controller.proofs.States.{keeps}
 use Rattle.controller.specs.declared.Core.{Core}
 use Rattle.controller.specs.declared.Applied.{Applied}
 use Rattle.controller.specs.declared.Sent.{Sent}
-use Rattle.controller.specs.Applying.{joined, core-of, stepped-of, AppliedAs, went, SentAs, full, queued, short, sent, FlushedAs, kept, flushed}
+use Rattle.controller.specs.Applying.{joined, core-of, stepped-of, AppliedAs, SentAs, full, queued, short, sent, FlushedAs, kept, flushed}
 use Rattle.controller.proofs.Writers.{emptied, all-length}
 
 not-motion : MotionFull ≡ Taken → ⊥
@@ -85,8 +83,8 @@ abbrev pub Applies : Given → Input → Applied → List ℕ → List ℕ → T
 Applies g i r q' l' = AppliedAs (g .core) i (g .waiting) (g .queue) (g .out) r q' l'
 
 -- the core with other parts
-abbrev with-parts : Core → Mouse → Sticks → Clock → Core
-with-parts k m n t = record { settings = k .settings; command = k .command; paused = k .paused; mouse = m; sticks = n; clock = t }
+abbrev with-parts : Core → Mouse → Sticks → Clock → Keys → Core
+with-parts k m n t keys = record { settings = k .settings; command = k .command; paused = k .paused; mouse = m; sticks = n; clock = t; keys = keys }
 
 -- the bytes and parts that an event comes to
 pub record Comes (e : Effect) (bs : List ℕ) (m : Mouse) (n : Sticks) (t : Clock) : Type 0 where
@@ -128,6 +126,7 @@ module _ (g : Given) (i : Input) where
           mouse = m;
           sticks = n;
           clock = t;
+          keys = map-after i (g .core .keys);
         }) (record {
           settings = g .core .settings;
           command = g .core .command;
@@ -136,6 +135,7 @@ module _ (g : Given) (i : Input) where
           mouse = effect-on i (state-of g) .mouse;
           sticks = effect-on i (state-of g) .sticks;
           clock = effect-on i (state-of g) .clock;
+          keys = map-after i (g .core .keys);
         })
         with-queue e = λ j. record {
           settings = g .core .settings;
@@ -145,10 +145,11 @@ module _ (g : Given) (i : Input) where
           mouse = a .mouse j;
           sticks = a .sticks j;
           clock = a .clock j;
+          keys = map-after i (g .core .keys);
         }
 
         queued-parts : g .core .paused ≡ true → g .waiting + length bs ≤ length (g .queue) →
-            joined (with-parts (g .core) m n t) (take (g .waiting) (g .queue) ++ over bs (drop (g .waiting) (g .queue))) (g .waiting + length bs) ≡ event-due i (state-of g) .state
+            joined (with-parts (g .core) m n t (map-after i (g .core .keys))) (take (g .waiting) (g .queue) ++ over bs (drop (g .waiting) (g .queue))) (g .waiting + length bs) ≡ event-due i (state-of g) .state
         unfolding event-due happened
         queued-parts p fits =
             let s = state-of g in
@@ -160,7 +161,7 @@ module _ (g : Given) (i : Input) where
             ∙ ap (λ (x : Bool). cond x (queue-of (contents (s .queue) ++ own)) (s .queue)) (sym p) in
             with-queue z
 
-        sent-parts : g .core .paused ≡ false → joined (with-parts (g .core) m n t) (g .queue) (g .waiting) ≡ event-due i (state-of g) .state
+        sent-parts : g .core .paused ≡ false → joined (with-parts (g .core) m n t (map-after i (g .core .keys))) (g .queue) (g .waiting) ≡ event-due i (state-of g) .state
         unfolding event-due happened
         sent-parts p =
             let s = state-of g in
@@ -168,7 +169,7 @@ module _ (g : Given) (i : Input) where
 
         -- the core afterwards: with the event's parts where its bytes were taken, and as it was where they were not
         abbrev chosen : Bool → Core
-        chosen x = cond x (with-parts (g .core) m n t) (g .core)
+        chosen x = cond x (with-parts (g .core) m n t (map-after i (g .core .keys))) (g .core)
 
         handed : {s s' : Sent} {q' q'' : List ℕ} {k : Core} → s ≡ s' → q' ≡ q'' → k ≡ chosen (s .taken) →
             _≡_ {A = Stepped} (record { answer = s .answer; count = s .count; state = joined k q' (s .waiting) })
@@ -198,13 +199,14 @@ module _ (g : Given) (i : Input) where
             (handed es eq ek ∙ ap (λ (z : State). record { answer = Taken; count = length bs; state = z }) (sent-parts p)))
 
         -- The parts afterwards are the event's where its bytes were taken, and as they were where not.
-        pub event-as : (g .core .paused ≡ true → too-far i (g .core .settings) (g .core .mouse) ≡ false) → {s : Sent} {q' l' : List ℕ} {x : Mouse} {y : Sticks} {z : Clock} →
+        pub event-as : (g .core .paused ≡ true → too-far i (g .core .settings) (g .core .mouse) ≡ false) → {s : Sent} {q' l' : List ℕ} {x : Mouse} {y : Sticks} {z : Clock} {keys : Keys} →
             SentAs (g .core .paused) bs (g .waiting) (g .queue) (g .out) s q' l' →
             x ≡ cond (s .taken) m (g .core .mouse) → y ≡ cond (s .taken) n (g .core .sticks) → z ≡ cond (s .taken) t (g .core .clock) →
-            Applies g i (record { answer = s .answer; count = s .count; waiting = s .waiting; core = with-parts (g .core) x y z }) q' l'
-        event-as near {s} w ex ey ez = sent-as near w ((λ j. with-parts (g .core) (ex j) (ey j) (ez j)) ∙ by (s .taken))
+            keys ≡ cond (s .taken) (map-after i (g .core .keys)) (g .core .keys) →
+            Applies g i (record { answer = s .answer; count = s .count; waiting = s .waiting; core = with-parts (g .core) x y z keys }) q' l'
+        event-as near {s} w ex ey ez ek = sent-as near w ((λ j. with-parts (g .core) (ex j) (ey j) (ez j) (ek j)) ∙ by (s .taken))
           where
-            by : (b : Bool) → with-parts (g .core) (cond b m (g .core .mouse)) (cond b n (g .core .sticks)) (cond b t (g .core .clock)) ≡ chosen b
+            by : (b : Bool) → with-parts (g .core) (cond b m (g .core .mouse)) (cond b n (g .core .sticks)) (cond b t (g .core .clock)) (cond b (map-after i (g .core .keys)) (g .core .keys)) ≡ chosen b
             by true = refl
             by false = refl
 
@@ -298,7 +300,7 @@ module _ (g : Given) (b : ℕ) (x : b ≤ 255) (got : Received) (m : Meaning) (w
         answer = s .answer;
         count = s .count;
         waiting = s .waiting;
-        core = record { settings = σ; command = got .command; paused = false; mouse = a .mouse; sticks = a .sticks; clock = a .clock };
+        core = record { settings = σ; command = got .command; paused = false; mouse = a .mouse; sticks = a .sticks; clock = a .clock; keys = g .core .keys };
       }) q' l'
   flushed-as σ (kept lt es eq el) t eσ = absurd (true≢false (sym t ∙ ap (λ (z : Sent). z .taken) es))
   flushed-as {s} {q'} σ (flushed fits es eq el) t eσ =
@@ -308,7 +310,7 @@ module _ (g : Given) (b : ℕ) (x : b ≤ 255) (got : Received) (m : Meaning) (w
       (λ j. record {
         answer = es j .answer;
         count = s .count;
-        state = record { settings = σ; command = got .command; paused = false; queue = record { bytes = q'; len = s .waiting }; mouse = a .mouse; sticks = a .sticks; clock = a .clock };
+        state = record { settings = σ; command = got .command; paused = false; queue = record { bytes = q'; len = s .waiting }; mouse = a .mouse; sticks = a .sticks; clock = a .clock; keys = g .core .keys };
       }))
 
   pub kept-as : {s : Sent} {q' l' : List ℕ} → FlushedAs all-sent (g .waiting) (g .queue) (g .out) s q' l' → s .taken ≡ false →
@@ -320,20 +322,39 @@ module _ (g : Given) (b : ℕ) (x : b ≤ 255) (got : Received) (m : Meaning) (w
       (λ j. record { answer = es j .answer; count = es j .count; state = joined (g .core) (eq j) (es j .waiting) })))
   kept-as (flushed fits es eq el) t = absurd (true≢false (sym (ap (λ (z : Sent). z .taken) es) ∙ t))
 
--- at a reset
-pub reset-as : (g : Given) {q' : List ℕ} {k : Core} → k ≡ core-of (reset-but (g .core .clock)) → q' ≡ over (replicate (g .waiting) 0) (g .queue) →
-    joined k q' 0 ≡ reset-but (g .core .clock)
-reset-as g ek eq =
-    let z = empty-again g eq refl in
-    λ j. record {
-      settings = ek j .settings;
-      command = ek j .command;
-      paused = ek j .paused;
-      queue = z j;
-      mouse = ek j .mouse;
-      sticks = ek j .sticks;
-      clock = ek j .clock;
-    }
+-- A reset.
+module _ (g : Given) (b : ℕ) (x : b ≤ 255) (got : Received) (m : Meaning) (w : Completes (state-of g) b got m) (does : executed m (got .params) (g .core .settings) ≡ true)
+    (p : is-reset m ≡ true) {s : Sent} {q' l' : List ℕ} where
+  pub reset-as : {k : Core} → FlushedAs (bytes (reset-packets (g .core .keys))) (g .waiting) (g .queue) (g .out) s q' l' → s .taken ≡ true → k ≡ core-of (reset-but (g .core .clock) (g .core .keys)) →
+      Applies g (Byte b) (record { answer = s .answer; count = s .count; waiting = s .waiting; core = k }) q' l'
+  reset-as (kept lt es eq el) t ek = absurd (true≢false (sym t ∙ ap (λ (z : Sent). z .taken) es))
+  reset-as (flushed fits es eq el) t ek =
+      let empty = empty-again g eq (ap (λ (z : Sent). z .waiting) es) in
+      applied g (Byte b) x
+      (reset-did (state-of g) b got m (g .good) w does p fits (record { count = ap (λ (z : Sent). z .count) es; buffer = el })
+      (λ j. record {
+        answer = es j .answer;
+        count = s .count;
+        state = record {
+          settings = ek j .settings;
+          command = ek j .command;
+          paused = ek j .paused;
+          queue = empty j;
+          mouse = ek j .mouse;
+          sticks = ek j .sticks;
+          clock = ek j .clock;
+          keys = ek j .keys;
+        };
+      }))
+
+  pub reset-kept-as : FlushedAs (bytes (reset-packets (g .core .keys))) (g .waiting) (g .queue) (g .out) s q' l' → s .taken ≡ false →
+      Applies g (Byte b) (record { answer = s .answer; count = s .count; waiting = s .waiting; core = g .core }) q' l'
+  reset-kept-as (kept lt es eq el) t =
+      applied g (Byte b) x
+      (onto g (Byte b) el
+      (reset-short-did (state-of g) b got m (g .good) w does p lt
+      (λ j. record { answer = es j .answer; count = es j .count; state = joined (g .core) (eq j) (es j .waiting) })))
+  reset-kept-as (flushed fits es eq el) t = absurd (true≢false (sym (ap (λ (z : Sent). z .taken) es) ∙ t))
 
 -- for an input that is known
 pub for-input : (g : Given) {i j : Input} {r : Applied} {q' l' : List ℕ} → i ≡ j → Applies g j r q' l' → Applies g i r q' l'

@@ -2,7 +2,7 @@
 -- Assumes nothing.
 use Prim.Native.Nat.{ℕ, _+_, _-_, _≤_}
 use native.Mathlib.Omega.{arith}
-use mathlib.Core.Path.{_≡_, refl, sym, ap, ap₂, _∙_}
+use mathlib.Core.Path.{_≡_, sym, ap, ap₂, _∙_}
 use mathlib.Core.Bool.{Bool, true, false, cond}
 use mathlib.Core.List.{[], List, _++_, append-assoc}
 use lib.ListN.{length, take, drop, replicate, length-append, length-replicate, replicate-append-replicate}
@@ -28,8 +28,8 @@ use Rattle.controller.specs.declared.State.{State}
 use Rattle.controller.specs.declared.Input.{Input}
 use Rattle.controller.specs.declared.Acted.{Acted}
 use Rattle.controller.specs.State.{IsQueue, OneQueue, contents, queue-of, queue-room, empty-queue}
-use Rattle.controller.specs.Host.{Effect, effect, resumed-packets, resumed-mouse, acted}
-use Rattle.controller.specs.Events.{happened, event, event-due}
+use Rattle.controller.specs.Host.{effect, resumed-packets, resumed-mouse, acted}
+use Rattle.controller.specs.Events.{happened, event-due}
 use Rattle.controller.specs.Handing.{acted-of}
 use Rattle.controller.proofs.Lengths.{effect-length}
 use Rattle.controller.proofs.Answers.{effect-on}
@@ -112,6 +112,7 @@ module _ (m : Meaning) (ps : List ℕ) (s : State) (v : Moved) (a : Acted) (mv :
         mouse = a .mouse;
         sticks = a .sticks;
         clock = a .clock;
+        keys = s .keys;
       }) (acted m ps s .state)
   unfolding acted
   acted-state σ c q eσ ec eq = λ i. record {
@@ -122,6 +123,7 @@ module _ (m : Meaning) (ps : List ℕ) (s : State) (v : Moved) (a : Acted) (mv :
     mouse = effect-is i .mouse;
     sticks = effect-is i .sticks;
     clock = effect-is i .clock;
+    keys = s .keys;
   }
 
   -- its own bytes are few

@@ -14,10 +14,14 @@ use Rattle.output.specs.Packets.{bytes}
 use Rattle.mouse.specs.declared.Sending.{Sending}
 use Rattle.mouse.specs.Sending.{packets-sent}
 use Rattle.output.specs.Writing.{over, Wrote}
-use Rattle.output.proofs.Writing.{both}
+use Rattle.output.proofs.Writing.{both, stored}
 use Rattle.output.proofs.Writing as writing
+use Rattle.keys.specs.declared.Keys.{Keys}
+use Rattle.keys.specs.Keys.{held, break-packets}
+use Rattle.keys.proofs.Maps.{packets-length}
 use Rattle.controller.specs.declared.Answer.the-variants.{QueueFull, BufferShort}
 use Rattle.controller.specs.State.{queue-room}
+use Rattle.controller.specs.Host.{reset-packets}
 use Rattle.controller.specs.declared.Sent.{Sent}
 use Rattle.controller.specs.Applying.{not-sent, went, SentAs, full, queued, short, sent, FlushedAs, kept, flushed}
 
@@ -80,6 +84,11 @@ short-length r h = sym (length-take-le (r .len) (r .bytes) (omega (arith, h .len
 pub both-length : (d : Sending) (r : Short) {n m : ℕ} → n ≡ length (bytes (packets-sent d)) → IsShort r → m ≡ n + r .len → m ≡ length (bytes (packets-sent d) ++ short-bytes r)
 both-length d r e h f = omega (arith, length-append (bytes (packets-sent d)) (short-bytes r), short-length r h)
 
+-- the buffer keeps its length
+pub flushed-length : {bs : List ℕ} {n : ℕ} {q l : List ℕ} {s : Sent} {q' l' : List ℕ} → FlushedAs bs n q l s q' l' → length l' ≡ length l
+flushed-length (kept lt es eq el) = ap length el
+flushed-length {bs} {l = l} (flushed fits es eq el) = ap length el ∙ writing.length-over bs l fits
+
 -- What waits, held motion and a short run, into the buffer.
 module _ (d : Sending) (r : Short) (n : ℕ) (q l : List ℕ) (k : ℕ) (e : k ≡ length (bytes (packets-sent d))) (h : IsShort r) (room : n ≤ length q) where
   pub all-length : length (take n q ++ (bytes (packets-sent d) ++ short-bytes r)) ≡ n + k + r .len
@@ -101,3 +110,15 @@ module _ (d : Sending) (r : Short) (n : ℕ) (q l : List ℕ) (k : ℕ) (e : k �
   flush-done fits wa wm f g =
       let w = both wa wm in
       flushed (omega (arith, all-length)) (g ∙ ap (λ (x : ℕ). went x 0) (w .count)) f (w .buffer)
+
+-- What a reset sends: the version, and as many break codes as keys are down.
+module _ (m : Keys) (n : ℕ) (q l : List ℕ) {k : ℕ} (e : k ≡ held m) where
+  pub reset-short : {s : Sent} → length l ≤ k → s ≡ not-sent BufferShort n → FlushedAs (bytes (reset-packets m)) n q l s q l
+  reset-short t f = kept (omega (arith, packets-length m)) f refl refl
+
+  pub reset-done : {c : ℕ} {Y q' : List ℕ} {s : Sent} → k < length l → Wrote (bytes (break-packets m)) c (take (length (set l 0 0xF0) - 1) (drop 1 (set l 0 0xF0))) Y →
+      q' ≡ over (replicate n 0) q → s ≡ went (1 + c) 0 →
+      FlushedAs (bytes (reset-packets m)) n q l s q' (take 1 (set l 0 0xF0) ++ (Y ++ drop (length (set l 0 0xF0) - 1) (drop 1 (set l 0 0xF0))))
+  reset-done fits w f g =
+      let all = both (stored 0xF0 l (omega arith)) w in
+      flushed (omega (arith, packets-length m)) (g ∙ ap (λ (x : ℕ). went x 0) (all .count)) f (all .buffer)

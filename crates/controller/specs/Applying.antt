@@ -27,6 +27,7 @@ joined k queue n = record {
   mouse = k .mouse;
   sticks = k .sticks;
   clock = k .clock;
+  keys = k .keys;
 }
 
 -- the core of a state
@@ -38,6 +39,7 @@ core-of s = record {
   mouse = s .mouse;
   sticks = s .sticks;
   clock = s .clock;
+  keys = s .keys;
 }
 
 -- what was handed back, as the step hands it back; the queue afterwards is beside it
@@ -65,7 +67,8 @@ pub data SentAs (paused : Bool) (bs : List ℕ) (n : ℕ) (queue out : List ℕ)
   short : paused ≡ false → length out < length bs → r ≡ not-sent BufferShort n → queue' ≡ queue → out' ≡ out → SentAs paused bs n queue out r queue' out'
   sent : paused ≡ false → length bs ≤ length out → r ≡ went (length bs) n → queue' ≡ queue → out' ≡ over bs out → SentAs paused bs n queue out r queue' out'
 
--- What became of a command's bytes bs, which begin with all that waits: they go out, and the places of what waited are 0 again.
+-- What became of a command's bytes bs: they go out, and nothing waits any more, since bs begin with all that waited, or a reset drops it. The places of
+-- what waited are 0 again.
 pub data FlushedAs (bs : List ℕ) (n : ℕ) (queue out : List ℕ) (r : Sent) (queue' out' : List ℕ) : Type 0 where
   kept : length out < length bs → r ≡ not-sent BufferShort n → queue' ≡ queue → out' ≡ out → FlushedAs bs n queue out r queue' out'
   flushed : length bs ≤ length out → r ≡ went (length bs) 0 → queue' ≡ over (replicate n 0) queue → out' ≡ over bs out → FlushedAs bs n queue out r queue' out'

@@ -10,9 +10,6 @@ use crate::event;
 use crate::send;
 use output::Short;
 
-// What the controller says of itself at a reset.
-const VERSION: u8 = 0xF0;
-
 impl Core {
     // One input, with a lent buffer of any length; `waiting` bytes wait at the start of the lent queue. What falls due is written at the
     // buffer's start or, for an event while output is paused, behind what waits. A command acts on its last byte; while output is paused
@@ -44,6 +41,8 @@ impl Core {
                     answer = sent.answer;
                     count = sent.count;
                     queued = sent.waiting;
+                    let keys = self.keys;
+                    self.keys = sent.keys_after(keys, code, down);
                 } else {
                     answer = Answer::OutOfRange;
                 }
@@ -147,15 +146,14 @@ impl Core {
                         self.command = command;
                         self.paused = true;
                     } else if command::is_reset(meaning) {
-                        if out.len() < 1 {
-                            answer = Answer::BufferShort;
-                        } else {
-                            out[0] = VERSION;
-                            count = 1;
+                        let keys = self.keys;
+                        let sent = send::send_reset(keys, queued, queue, out);
+                        answer = sent.answer;
+                        count = sent.count;
+                        queued = sent.waiting;
+                        if sent.taken {
                             let clock = self.clock;
-                            self = Core::reset_but(clock);
-                            send::clear(queue, queued);
-                            queued = 0;
+                            self = Core::reset_but(clock, keys);
                         }
                     } else {
                         let held = self.mouse;

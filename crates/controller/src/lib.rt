@@ -6,10 +6,12 @@ mod step;
 
 // The controller: its state, what goes in and what comes out of a step.
 ghost use mathlib.Core.Path.{_≡_};
-ghost use Rattle.controller.specs.State.{power-up, reset-but, limits};
+ghost use Rattle.keys.specs.Keys.{held};
+ghost use Rattle.controller.specs.State.{power-up, reset-but, limits, IsState};
 ghost use Rattle.controller.specs.Step.{number};
 ghost use Rattle.controller.specs.Applying.{core-of, joined};
 use clock::Clock;
+use keys::Keys;
 use mouse::Mouse;
 use mouse::Side;
 use output::Short;
@@ -31,6 +33,7 @@ pub struct State {
     pub mouse: Mouse,
     pub sticks: Sticks,
     pub clock: Clock,
+    pub keys: Keys,
 }
 
 // A host byte, or an event. Every value has an answer: a number outside its range is answered, not shut out.
@@ -79,14 +82,16 @@ pub struct Limits {
     pub buffer: usize,
 }
 
-// The state without its queue, whose bytes are lent beside it: nothing that is handed on grows with the queue's room.
+// The state without its queue, whose bytes are lent beside it: nothing that is handed on grows with the queue's room. The order of the
+// fields is one of those that cost the session's loop the fewest instructions (docs/DECISIONS.md has what was measured).
 pub struct Core {
     pub settings: Settings,
-    pub command: Command,
-    pub paused: bool,
-    pub mouse: Mouse,
-    pub sticks: Sticks,
+    pub keys: Keys,
     pub clock: Clock,
+    pub mouse: Mouse,
+    pub paused: bool,
+    pub command: Command,
+    pub sticks: Sticks,
 }
 
 // What an input came to: `count` bytes stand at the start of the lent buffer, and `waiting` bytes at the start of the lent queue.
@@ -134,9 +139,9 @@ impl Queue {
 }
 
 impl Core {
-    // Everything but the clock is as at power-up.
-    pub(crate) fn reset_but(clock: Clock) -> Self
-        ensures { λ r. ⌜ r ≡ core-of (reset-but clock) ⌝ }
+    // Everything but the clock and the map of the keys is as at power-up.
+    pub(crate) fn reset_but(clock: Clock, keys: Keys) -> Self
+        ensures { λ r. ⌜ r ≡ core-of (reset-but clock keys) ⌝ }
     {
         Core {
             settings: Settings::power_up(),
@@ -145,6 +150,7 @@ impl Core {
             mouse: Mouse::power_up(),
             sticks: Sticks::power_up(),
             clock: clock,
+            keys: keys,
         }
     }
 
@@ -158,6 +164,7 @@ impl Core {
         let mouse = self.mouse;
         let sticks = self.sticks;
         let clock = self.clock;
+        let keys = self.keys;
         let queue = Queue {
             bytes,
             len: waiting,
@@ -170,6 +177,7 @@ impl Core {
             mouse,
             sticks,
             clock,
+            keys,
         }
     }
 }
@@ -194,7 +202,7 @@ impl State {
     pub fn power_up() -> Self
         ensures { λ r. ⌜ r ≡ power-up ⌝ }
     {
-        Core::reset_but(Clock::power_up()).with_queue([0; Queue::ROOM], 0)
+        Core::reset_but(Clock::power_up(), Keys::none()).with_queue([0; Queue::ROOM], 0)
     }
 
     // The state without its queue.
@@ -206,6 +214,7 @@ impl State {
         let mouse = self.mouse;
         let sticks = self.sticks;
         let clock = self.clock;
+        let keys = self.keys;
         Core {
             settings,
             command,
@@ -213,6 +222,16 @@ impl State {
             mouse,
             sticks,
             clock,
+            keys,
         }
+    }
+
+    // How many keys are held, for the lamp on the board: counted from the map on each call.
+    pub fn lamp(self) -> u8
+        requires { ⌜ IsState self ⌝ }
+        ensures { λ r. ⌜ r ≡ held (self .keys) ⌝ }
+    {
+        let keys = self.keys;
+        keys.count()
     }
 }

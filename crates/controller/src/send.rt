@@ -5,21 +5,28 @@ ghost use mathlib.Core.Bool.{cond};
 ghost use mathlib.Core.List.{_++_};
 ghost use Prim.Native.Nat.{_+_, _*_, _≤_};
 ghost use lib.ListN.{length, take, replicate};
+ghost use Rattle.output.specs.ScanCodes.{first-key, last-key};
 ghost use Rattle.output.specs.Packets.{bytes};
 ghost use Rattle.output.specs.Short.{short-bytes, short-room, IsShort};
 ghost use Rattle.output.specs.Writing.{over, Wrote};
 ghost use Rattle.clock.specs.Clock.{tick};
 ghost use Rattle.mouse.specs.Sending.{packets-sent};
 ghost use Rattle.mouse.specs.Mouse.{held-limit};
+ghost use Rattle.keys.specs.Keys.{struck, IsKeys};
 ghost use Rattle.controller.specs.State.{queue-room};
+ghost use Rattle.controller.specs.Host.{reset-packets};
 ghost use Rattle.controller.specs.Applying.{went, not-sent, SentAs, FlushedAs};
 use crate::Answer;
 use crate::Sent;
 use clock::Clock;
+use keys::Keys;
 use mouse::Mouse;
 use mouse::Sending;
 use output::Short;
 use sticks::Sticks;
+
+// What the controller says of itself at a reset.
+const VERSION: u8 = 0xF0;
 
 impl Sent {
     // Bytes that were taken: `count` of them stand in the buffer now.
@@ -75,6 +82,17 @@ impl Sent {
         }
         clock
     }
+
+    // The event is a key's.
+    pub(crate) fn keys_after(self, keys: Keys, code: u8, down: bool) -> Keys
+        requires { ⌜ (first-key ≤ code) × (code ≤ last-key) ⌝ }
+        ensures { λ r. ⌜ r ≡ cond (self .taken) (struck code down keys) keys ⌝ }
+    {
+        if self.taken {
+            return keys.struck(code, down);
+        }
+        keys
+    }
 }
 
 // Held motion that is sent, and then a short run of bytes in the rest of the buffer.
@@ -92,7 +110,7 @@ fn emit(sending: Sending, short: Short, out: &mut [u8]) -> usize
 }
 
 // The first `n` bytes are 0 again.
-pub(crate) fn clear(queue: &mut [u8], n: usize)
+fn clear(queue: &mut [u8], n: usize)
     requires { ⌜ n ≤ length (now queue) ⌝ }
     ensures { λ r. ⌜ now (queue .exit) ≡ over (replicate n 0) (now (queue .entry)) ⌝ }
 {
@@ -184,4 +202,19 @@ pub(crate) fn flush(
     let n = emit(sending, short, &mut out[a..]);
     clear(queue, waiting);
     Sent::went(a + n, 0)
+}
+
+// What a reset sends: the version, and the break code of each key that is down. What waits is dropped.
+pub(crate) fn send_reset(keys: Keys, waiting: usize, queue: &mut [u8], out: &mut [u8]) -> Sent
+    requires { ⌜ IsKeys keys ⌝ }
+    requires { ⌜ waiting ≤ length (now queue) ⌝ }
+    ensures { λ r. ⌜ FlushedAs (bytes (reset-packets keys)) waiting (now (queue .entry)) (now (out .entry)) r (now (queue .exit)) (now (out .exit)) ⌝ }
+{
+    if out.len() <= keys.count() as usize {
+        return Sent::refused(Answer::BufferShort, waiting);
+    }
+    out[0] = VERSION;
+    let n = keys.write_breaks(&mut out[1..]);
+    clear(queue, waiting);
+    Sent::went(1 + n, 0)
 }

@@ -1,13 +1,15 @@
--- The demands, and that no motion is lost or doubled, over calls of the step in code, each known by its promise alone: calls come to what the definition says.
+-- The demands, that no motion is lost or doubled, and which keys are down, over calls of the step in code, each known by its promise alone: calls come to
+-- what the definition says.
 -- Assumes nothing.
 use Prim.Native.Nat.{ℕ}
 use native.Mathlib.Omega.{arith}
 use mathlib.Core.Path.{_≡_, refl, sym, ap, ap₂, _∙_, subst}
-use mathlib.Core.Bool.{cond, _&&_}
+use mathlib.Core.Bool.{true, cond, _&&_}
 use mathlib.Core.List.{List, [], _∷_, map}
 use lib.Dec.{eqb}
 use lib.ListN.{length}
 use lib.Seq.{drop-append-seam}
+use Rattle.output.specs.ScanCodes.{break-of}
 use Rattle.output.specs.Writing.{over}
 use Rattle.output.proofs.Writing.{length-over}
 use Rattle.protocol.specs.Replies.{in-order}
@@ -22,11 +24,13 @@ use Rattle.demands.specs.Demand1.{ByTable}
 use Rattle.demands.specs.Demand2.{Flow, flow, flows-in}
 use Rattle.demands.specs.Demand3.{Seen, seen, seen-in, Asking, SendingBack}
 use Rattle.demands.specs.Conservation.{Arrival, arrival, arrivals-in, AllUndisturbed}
-use Rattle.demands.specs.Calls.{Call, Promised, Calls, answer-of, turn-of, flow-of, flows-of, seen-of, arrival-of, arrivals-of, Demand1-of-calls, Demand2-of-calls, Demand2-whole-of-calls, Demand3-of-calls, Conservation-of-calls, NoneDropped-of-calls}
+use Rattle.demands.specs.StuckKeys.{down-keys}
+use Rattle.demands.specs.Calls.{Call, Promised, Calls, answer-of, turn-of, flow-of, flows-of, seen-of, arrival-of, arrivals-of, Demand1-of-calls, Demand2-of-calls, Demand2-whole-of-calls, Demand3-of-calls, Conservation-of-calls, NoneDropped-of-calls, MapIsTrue-of-calls, ResetNames-of-calls}
 use Rattle.demands.proofs.Demand1.{demand-1}
 use Rattle.demands.proofs.Demand2.{demand-2, demand-2-whole}
 use Rattle.demands.proofs.PutBack.{put-back}
 use Rattle.demands.proofs.Conservation.{conservation, none-dropped}
+use Rattle.demands.proofs.StuckKeys.{map-is-true, reset-names}
 
 -- a call, as a step of a sequence
 module _ (s : State) (c : Call) (p : Promised s c) where
@@ -112,3 +116,21 @@ pub none-dropped-calls : NoneDropped-of-calls
 none-dropped-calls s t cs k u =
     let r = ran s t cs k in
     rw (r .flows-then) (none-dropped s (map turn-of cs) (subst AllUndisturbed (r .arrivals-then) u))
+
+-- A1, for calls of the step in code
+pub map-is-true-calls : MapIsTrue-of-calls
+map-is-true-calls s t cs k h a =
+    let r = ran s t cs h in
+    rw (r .state-then, r .seen-then) (map-is-true s (map turn-of cs) k a)
+
+pub reset-names-calls : ResetNames-of-calls
+reset-names-calls s t cs c h p resets taken =
+    let r = ran s t cs h in
+    let ts = map turn-of cs in
+    let lent = length (c .before) in
+    let named =
+    subst (λ (x : State). resets-by x (c .input) ≡ true → step x (c .input) lent .answer ≡ 0 → step x (c .input) lent .written ≡ 0xF0 ∷ map break-of (down-keys s (seen-in s ts)))
+    (sym (r .state-then)) (reset-names s ts (c .input) lent) in
+    did-write t (c .input) p
+    ∙ named resets (sym (did-answer t (c .input) p) ∙ taken)
+    ∙ ap (λ (h : List Seen). 0xF0 ∷ map break-of (down-keys s h)) (sym (r .seen-then))

@@ -4,11 +4,12 @@ use Prim.Native.Nat.{ℕ, zero, suc, _+_, _≤_, _<_}
 use native.Mathlib.Omega.{arith}
 use mathlib.Core.Path.{_≡_, refl, sym, ap, _∙_, subst}
 use mathlib.Core.Bool.{Bool, true, false, _&&_, true≢false}
-use mathlib.Core.List.{List, []}
+use mathlib.Core.List.{List}
 use lib.Dec.{eqb, ltb}
 use lib.ListN.{length, replicate, length-replicate}
 use borrow.Author.Tests.{eqb-true, ltb-true}
 use Rattle.output.proofs.Cases.{both-ways, and-true}
+use Rattle.output.specs.Packets.{bytes}
 use Rattle.protocol.specs.declared.Command.{Command}
 use Rattle.protocol.specs.Codes.{table, find, line, parameters-of, memory-load}
 use Rattle.protocol.specs.Reading.{AllBytes, Between, Fed, IsCommand, missing, no-command, take-parameter, take-data, feed, command-after}
@@ -20,7 +21,7 @@ use Rattle.controller.specs.declared.Input.the-variants.{Byte}
 use Rattle.controller.specs.declared.Answer.{Answer}
 use Rattle.controller.specs.declared.Answer.the-variants.{Taken}
 use Rattle.controller.specs.State.{IsState}
-use Rattle.controller.specs.Host.{Due, host-due}
+use Rattle.controller.specs.Host.{Due, host-due, reset-packets}
 use Rattle.controller.specs.Step.{IsInput, due, verdict, told, step}
 use Rattle.controller.proofs.Answers.{host-taken}
 use Rattle.controller.proofs.States.{keeps}
@@ -79,14 +80,14 @@ module _ (c : Controller) (m : Meets c) where
         },
       )
 
-  -- between commands: 0x80 0x01 sends 0xF0
+  -- between commands: 0x80 0x01 sends what a reset sends, which is something
   no-reset : (s : State) → Between (s .command) → Idle s → ⊥
   unfolding rules
   no-reset s between h =
       let (none, g) = on-byte s 0x80 (omega arith) h in
       let half-received : due s (Byte 0x80) .state .command ≡ command-after (feed no-command 0x80) =
       command-is s 0x80 ∙ ap command-after (feed-between (s .command) 0x80 between) in
-      let sent : length (due (due s (Byte 0x80) .state) (Byte 0x01) .written) ≡ 1 =
+      let sent : length (due (due s (Byte 0x80) .state) (Byte 0x01) .written) ≡ length (bytes (reset-packets (due s (Byte 0x80) .state .keys))) =
       ap (λ (k : Command). length (host-due (feed k 0x01) (due s (Byte 0x80) .state) .written)) half-received in
       omega (arith, sent, on-byte (due s (Byte 0x80) .state) 0x01 (omega arith) g .0)
 

@@ -5,6 +5,7 @@ pub mod Core
 pub mod Asking
 pub mod PutBack
 pub mod Conservation
+pub mod StuckKeys
 pub mod Calls
 pub mod Witness3
 pub mod Rules
@@ -12,5 +13,6 @@ pub mod Sessions
 pub mod MostDue
 pub mod MotionWitness
 pub mod Readings
+pub mod KeyReadings
 pub mod Idling
 pub mod ShutOut

@@ -11,10 +11,10 @@ use Rattle.controller.specs.declared.Input.the-variants.{Key, Button}
 use Rattle.controller.specs.State.{power-up, queue-room, most-due}
 use Rattle.demands.specs.Sessions.{host, move, plus, minus, stick, tick, times, Stretch, gives, nothing, Goes}
 use Rattle.demands.proofs.MostDue.{to-the-limit}
-use Rattle.demands.proofs.Rules.{rules}
+use Rattle.demands.proofs.Rules.{rules, of-keys}
 
 -- "K hex 1/0" and "L 1/0"
-abbrev key : ℕ → Bool → List Input
+abbrev pub key : ℕ → Bool → List Input
 key code down = Key code down ∷ []
 
 abbrev left : Bool → List Input
@@ -25,7 +25,7 @@ abbrev along-x : ℤ → List Input
 along-x d = move d (plus 0)
 
 -- each of these inputs is refused with this number
-abbrev refuses : ℕ → List Input → Stretch
+abbrev pub refuses : ℕ → List Input → Stretch
 refuses n is = record { inputs = is; answer = n; bytes = [] }
 
 -- a session, and the length of the buffer lent with each of its inputs
@@ -37,10 +37,10 @@ abbrev with-buffer-of : ℕ → List Stretch → Played
 with-buffer-of lent xs = record { lent = lent; session = xs }
 
 -- the buffer of the text program
-abbrev played : List Stretch → Played
+abbrev pub played : List Stretch → Played
 played xs = with-buffer-of most-due xs
 
-abbrev AllPlayed : List Played → Type 0
+abbrev pub AllPlayed : List Played → Type 0
 AllPlayed [] = Unit {0}
 AllPlayed (p ∷ ps) = Goes (p .lent) power-up (p .session) × AllPlayed ps
 
@@ -227,5 +227,5 @@ readings =
 
 -- each of them goes so
 pub readings-hold : AllPlayed readings
-unfolding rules readings
+unfolding rules of-keys readings
 readings-hold = (((refl, refl), ((refl, refl), tt)), (((refl, refl), ((refl, refl), tt)), (((refl, refl), ((refl, refl), tt)), (((refl, refl), ((refl, refl), tt)), (((refl, refl), ((refl, refl), ((refl, refl), tt))), (((refl, refl), ((refl, refl), tt)), (((refl, refl), ((refl, refl), tt)), (((refl, refl), ((refl, refl), ((refl, refl), tt))), (((refl, refl), ((refl, refl), ((refl, refl), tt))), (((refl, refl), tt), (((refl, refl), ((refl, refl), tt)), (((refl, refl), tt), (((refl, refl), ((refl, refl), ((refl, refl), tt))), (((refl, refl), ((refl, refl), ((refl, refl), tt))), (((refl, refl), ((refl, refl), ((refl, refl), tt))), (((refl, refl), ((refl, refl), tt)), (((refl, refl), ((refl, refl), tt)), (((refl, refl), ((refl, refl), tt)), (((refl, refl), ((refl, refl), tt)), (((refl, refl), tt), tt))))))))))))))))))))

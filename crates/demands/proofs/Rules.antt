@@ -23,9 +23,11 @@ use Rattle.sticks.specs.Ticks.{both, monitored, interval, repeated, axis-aged, 
 use Rattle.sticks.specs.Ticks as ticks
 use Rattle.sticks.specs.Commands.{monitoring-left, mouse-commanded}
 use Rattle.sticks.specs.Commands as commands
+use Rattle.keys.specs.Words.{has-bit, put}
+use Rattle.keys.specs.Keys.{has-key, struck, those, keys-of, break-packets}
 use Rattle.controller.specs.State.{queue-of}
 use Rattle.controller.specs.Host.{mouse-effect, stick-effect, other-effect, effect, acted, reset-due, executes, host-due, command-executed}
-use Rattle.controller.specs.Events.{happened, key-packets, event, event-due}
+use Rattle.controller.specs.Events.{happened, key-packets, event, map-after, event-due}
 use Rattle.controller.specs.Step.{due, in-range, out-of-range, queue-full, too-far, motion-full, buffer-short, verdict, told, step}
 use Rattle.controller.specs.Sequences.{after, history, all-written}
 
@@ -71,7 +73,7 @@ unfolding monitoring-left mouse-commanded commands.commanded mouse-effect stick-
 of-commands = tt
 
 of-steps : Unit {0}
-unfolding queue-of happened key-packets event event-due due in-range out-of-range queue-full too-far motion-full buffer-short verdict told step
+unfolding queue-of happened key-packets event map-after event-due due in-range out-of-range queue-full too-far motion-full buffer-short verdict told step
 of-steps = tt
 
 of-sequences : Unit {0}
@@ -81,3 +83,8 @@ of-sequences = tt
 unfoldable pub rules : Unit {0}
 unfolding of-output of-motion of-clock of-reading of-settings of-mouse of-moves of-sticks of-ticks of-commands of-steps of-sequences
 rules = tt
+
+-- The map of the keys, opened beside `rules` where the map is known: one that is not would be gone through key by key.
+unfoldable pub of-keys : Unit {0}
+unfolding has-bit put has-key struck those keys-of break-packets
+of-keys = tt

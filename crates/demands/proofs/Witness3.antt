@@ -30,6 +30,7 @@ use Rattle.mouse.specs.Mouse.{with-held}
 use Rattle.protocol.specs.Reading.{no-command}
 use Rattle.protocol.specs.Commands.{with-stick, without-mouse, with-role}
 use Rattle.protocol.specs.Settings as settings
+use Rattle.keys.specs.Keys.{no-keys}
 use Rattle.controller.specs.declared.State.{State}
 use Rattle.controller.specs.declared.Input.{Input}
 use Rattle.controller.specs.declared.Input.the-variants.{Byte, Key, Move, Joystick, Tick}
@@ -38,7 +39,7 @@ use Rattle.controller.specs.State.{power-up, empty-queue, IsState}
 use Rattle.controller.specs.Sequences.{Turn, after}
 use Rattle.demands.specs.Demand3.{Seen, seen-in, taken, NoOther, last-8, Kept, Asking, SendingBack}
 use Rattle.demands.proofs.PutBack.{put-back}
-use Rattle.demands.proofs.Rules.{rules}
+use Rattle.demands.proofs.Rules.{rules, of-keys}
 use Rattle.mouse.specs.Mouse as mouse
 use Rattle.sticks.specs.Sticks as sticks
 
@@ -110,6 +111,7 @@ state-of σ paused queue held = record {
   mouse = with-held held mouse.at-power-up;
   sticks = sticks.at-power-up;
   clock = first-day;
+  keys = no-keys;
 }
 
 -- Port 0 a mouse: joystick keycode mode and joysticks off, thresholds, scales, origin bottom, action 3, mouse keycode mode.
@@ -135,7 +137,7 @@ mouse-start =
 mouse-start-is : IsState mouse-start
 unfolding mouse-start rules taken
 mouse-start-is = record {
-  ranges = record { settings = omega arith; command = omega arith; queue = omega arith; mouse = omega arith; sticks = omega arith; clock = omega arith };
+  ranges = record { settings = omega arith; command = omega arith; queue = omega arith; mouse = omega arith; sticks = omega arith; clock = omega arith; keys = omega arith };
   spelling = record { command = refl; queue = refl; mouse = omega arith; sticks = omega arith };
 }
 
@@ -144,7 +146,7 @@ mouse-start-reached : after power-up (
     host (0x19 ∷ 1 ∷ 2 ∷ 3 ∷ 4 ∷ 5 ∷ 6 ∷ 0x1A ∷ 0x0B ∷ 5 ∷ 6 ∷ 0x0C ∷ 7 ∷ 8 ∷ 0x0F ∷ 0x07 ∷ 3 ∷ 0x0A ∷ 4 ∷ 2 ∷ 0x13 ∷ [])
     ++ (given (Key 0x1E true) 0 ∷ given (Key 0x1E false) 0 ∷ given (Move (pos 9) (negsuc 4)) 0 ∷ [])
     ) ≡ mouse-start
-unfolding mouse-start rules taken
+unfolding mouse-start rules of-keys taken
 mouse-start-reached = refl
 
 -- By the first inquiry 18 bytes are due: two queued, four key pairs of the motion, and the reply. Refused for want of room are a byte of another
@@ -182,7 +184,7 @@ mouse-later = state-of (with-role ForJoystick (with-stick Interrogation (without
 mouse-later-is : IsState mouse-later
 unfolding mouse-later rules taken
 mouse-later-is = record {
-  ranges = record { settings = omega arith; command = omega arith; queue = omega arith; mouse = omega arith; sticks = omega arith; clock = omega arith };
+  ranges = record { settings = omega arith; command = omega arith; queue = omega arith; mouse = omega arith; sticks = omega arith; clock = omega arith; keys = omega arith };
   spelling = record { command = refl; queue = refl; mouse = omega arith; sticks = omega arith };
 }
 
@@ -242,7 +244,7 @@ joystick-start = state-of joystick-settings false empty-queue at-rest
 joystick-start-is : IsState joystick-start
 unfolding joystick-start rules taken
 joystick-start-is = record {
-  ranges = record { settings = omega arith; command = omega arith; queue = omega arith; mouse = omega arith; sticks = omega arith; clock = omega arith };
+  ranges = record { settings = omega arith; command = omega arith; queue = omega arith; mouse = omega arith; sticks = omega arith; clock = omega arith; keys = omega arith };
   spelling = record { command = refl; queue = refl; mouse = omega arith; sticks = omega arith };
 }
 
@@ -282,7 +284,7 @@ joystick-later = state-of (with-role ForJoystick (with-stick Fire settings.power
 joystick-later-is : IsState joystick-later
 unfolding joystick-later rules taken
 joystick-later-is = record {
-  ranges = record { settings = omega arith; command = omega arith; queue = omega arith; mouse = omega arith; sticks = omega arith; clock = omega arith };
+  ranges = record { settings = omega arith; command = omega arith; queue = omega arith; mouse = omega arith; sticks = omega arith; clock = omega arith; keys = omega arith };
   spelling = record { command = refl; queue = refl; mouse = omega arith; sticks = omega arith };
 }
 

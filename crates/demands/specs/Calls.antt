@@ -1,14 +1,16 @@
--- The three demands, and that no motion is lost or doubled, over calls of the step in code, each known by its promise alone. Answer, bytes and state are
--- read off what a call handed back; what fell due is the definition's.
+-- The three demands, that no motion is lost or doubled, and which keys are down, over calls of the step in code, each known by its promise alone. Answer,
+-- bytes and state are read off what a call handed back; what fell due is the definition's.
 use Prim.Native.Nat.{ℕ, _≤_}
 use mathlib.Core.Path.{_≡_}
-use mathlib.Core.Bool.{cond, _&&_}
+use mathlib.Core.Bool.{true, cond, _&&_}
 use mathlib.Core.List.{List, [], _∷_, map}
 use lib.Dec.{eqb}
 use lib.ListN.{length, take, drop}
+use Rattle.output.specs.ScanCodes.{first-key, break-of}
 use Rattle.protocol.specs.declared.Inquiry.{Inquiry}
 use Rattle.protocol.specs.Replies.{in-order}
 use Rattle.mouse.specs.Totals.{Axis}
+use Rattle.keys.specs.Keys.{has-key}
 use Rattle.controller.specs.declared.State.{State}
 use Rattle.controller.specs.declared.Input.{Input}
 use Rattle.controller.specs.declared.Stepped.{Stepped}
@@ -19,6 +21,7 @@ use Rattle.demands.specs.Demand1.{ByTable}
 use Rattle.demands.specs.Demand2.{Flow, all-dropped, InOrder, Whole}
 use Rattle.demands.specs.Demand3.{Seen, Asking, SendingBack}
 use Rattle.demands.specs.Conservation.{Arrival, AllUndisturbed, Conserved}
+use Rattle.demands.specs.StuckKeys.{down-after, down-keys}
 
 -- one call: the input, the lent buffer before it, what it handed back, and the buffer after it
 pub record Call : Type 0 where
@@ -123,3 +126,13 @@ Conservation-of-calls =
 -- A14 for calls: as NoneDropped
 abbrev pub NoneDropped-of-calls : Type 0
 NoneDropped-of-calls = (s t : State) (cs : List Call) → Calls s cs t → AllUndisturbed (arrivals-of s cs) → all-dropped (flows-of s cs) ≡ []
+
+-- A1 for calls: as MapIsTrue
+abbrev pub MapIsTrue-of-calls : Type 0
+MapIsTrue-of-calls = (s t : State) (cs : List Call) (k : ℕ) → Calls s cs t → first-key ≤ k →
+    has-key k (t .keys) ≡ down-after k (map seen-of cs) (has-key k (s .keys))
+
+-- A1 for calls: as ResetNames
+abbrev pub ResetNames-of-calls : Type 0
+ResetNames-of-calls = (s t : State) (cs : List Call) (c : Call) → Calls s cs t → Promised t c → resets-by t (c .input) ≡ true → answer-of c ≡ 0 →
+    written-by c ≡ 0xF0 ∷ map break-of (down-keys s (map seen-of cs))

@@ -5,7 +5,7 @@ use native.Mathlib.Nat.{zero-add, add-sub-cancel-left}
 use native.Mathlib.Omega.{arith}
 use mathlib.Core.Path.{_≡_, refl, sym, ap, _∙_, subst}
 use mathlib.Core.List.{List, [], _∷_, _++_, append-nil, append-assoc}
-use lib.ListN.{length, take, drop, length-append, length-drop}
+use lib.ListN.{length, take, drop, set, length-append, length-drop}
 use lib.Seq.{paste, sets, sets-eq, drop-append-add, take-append-seam, drop-append-seam, take-length, drop-length, drop-drop, length-take-le}
 use Rattle.output.specs.Writing.{over, Wrote}
 
@@ -54,6 +54,12 @@ second (x ∷ a) e w = absurd (omega arith)
 -- nothing written
 pub none : (l : List ℕ) → Wrote [] 0 l l
 none l = record { count = refl; buffer = over-nil l }
+
+-- one byte stored at the front
+pub stored : (b : ℕ) (l : List ℕ) → 1 ≤ length l → Wrote (b ∷ []) 1 l (set l 0 b)
+unfolding over
+stored b [] h = absurd (omega arith)
+stored b (x ∷ l) h = record { count = refl; buffer = refl }
 
 -- what a stage leaves is as long as it was
 pub kept : {a l X : List ℕ} {n : ℕ} → Wrote a n l X → n ≤ length l → length X ≡ length l

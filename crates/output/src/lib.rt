@@ -92,11 +92,16 @@ impl Short {
         self.add(make).add(make + 0x80)
     }
 
+    // A key's run has one byte, which is stored by itself: to call `copy` for it cost each key some thirty instructions more.
     pub fn write(self, out: &mut [u8]) -> usize
         requires { ⌜ (self .len ≤ short-room) × (self .len ≤ length (now out)) ⌝ }
         ensures { λ r. ⌜ Wrote (short-bytes self) r (now (out .entry)) (now (out .exit)) ⌝ }
     {
         let bytes = self.bytes;
+        if self.len == 1 {
+            out[0] = bytes[0];
+            return 1;
+        }
         copy(&bytes, self.len, out)
     }
 }

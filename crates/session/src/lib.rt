@@ -14,6 +14,7 @@ use text::Read;
 mod ask;
 mod lines;
 
+pub use ask::tell_lamp;
 pub use ask::tell_queue;
 pub use lines::Fed;
 pub use lines::Session;

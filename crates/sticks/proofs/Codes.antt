@@ -16,7 +16,7 @@ use Rattle.sticks.specs.declared.Sticks.{Sticks}
 use Rattle.sticks.specs.declared.SticksTold.{SticksTold}
 use Rattle.sticks.specs.Sticks.{CountDue, told-of, closed, direction, horizontal, vertical}
 use Rattle.sticks.specs.Events.{keys-sent}
-use Rattle.sticks.specs.Keys.{pair-of, scan-of, with-pair, with-code}
+use Rattle.sticks.specs.Keycode.{pair-of, scan-of, with-pair, with-code}
 
 -- a direction is a make code
 direction-make : (a b : Bool) (m n : ℕ) → m ≤ 0x7F → n ≤ 0x7F → direction a m b n ≤ 0x7F

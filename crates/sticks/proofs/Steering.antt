@@ -15,7 +15,7 @@ use Rattle.sticks.specs.declared.Sticks.{Sticks}
 use Rattle.sticks.specs.declared.SticksTold.{SticksTold}
 use Rattle.sticks.specs.Sticks.{quiet, told-of, stick-at}
 use Rattle.sticks.specs.Events.{stored, heard, trigger-keys, axis-moved, stick-keyed, stick-moved-in, stick-moved}
-use Rattle.sticks.specs.Keys.{scan-of, stick-turned}
+use Rattle.sticks.specs.Keycode.{scan-of, stick-turned}
 
 -- stick 1 has only its trigger
 one-keyed : (on : Bool) (new : Stick) (s : Sticks)

@@ -2,4 +2,4 @@ pub mod Sticks
 pub mod Events
 pub mod Ticks
 pub mod Commands
-pub mod Keys
+pub mod Keycode

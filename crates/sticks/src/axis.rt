@@ -4,7 +4,7 @@ ghost use Prim.Native.Nat.{_+_, _≤_, min};
 ghost use Rattle.sticks.specs.Sticks.{most-count, direction, horizontal, vertical};
 ghost use Rattle.sticks.specs.Events.{axis-turned};
 ghost use Rattle.sticks.specs.Ticks.{interval, axis-aged};
-ghost use Rattle.sticks.specs.Keys.{due-of};
+ghost use Rattle.sticks.specs.Keycode.{due-of};
 use crate::AxisTold;
 use crate::Count;
 use output::ScanCode;

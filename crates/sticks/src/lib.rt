@@ -2,7 +2,7 @@
 mod axis;
 mod command;
 mod event;
-mod keys;
+mod keycode;
 mod tick;
 
 ghost use mathlib.Core.Path.{_≡_};

@@ -1,7 +1,7 @@
 // Plays sessions with buffers of any length. A line `=`, a tab and a number begins a session from power-up in which that many bytes
 // are lent with every input; it is printed as it stands. A line `?`, a tab and a word asks for something that no input tells, and
-// changes nothing: `queue` for the bytes that wait. For any other line its number in the session, the answer and the bytes are printed,
-// as the text program prints them.
+// changes nothing: `queue` for the bytes that wait, `lamp` for how many keys are held. For any other line its number in the session, the
+// answer and the bytes are printed, as the text program prints them.
 ghost use mathlib.Core.Path.{_≡_};
 ghost use Prim.Native.Nat.{_+_, _≤_, _<_, _^_};
 ghost use lib.ListN.{length};
@@ -18,6 +18,13 @@ pub struct Session {
     pub state: State,
     pub number: u64,
     pub lent: usize,
+}
+
+// What no input tells: the bytes that wait, or how many keys are held.
+pub enum Question {
+    None,
+    Queue,
+    Lamp,
 }
 
 // What a line came to: the session behind it, and how many bytes were printed.
@@ -95,7 +102,7 @@ fn number_in(line: &[u8]) -> usize {
 }
 
 // Whether a line is `?`, a tab and this word.
-fn is_question(line: &[u8], word: &[u8]) -> bool {
+fn asks(line: &[u8], word: &[u8]) -> bool {
     let n = word.len();
     if line.len() != n + 2 {
         return false;
@@ -114,6 +121,37 @@ fn is_question(line: &[u8], word: &[u8]) -> bool {
         i += 1;
     }
     true
+}
+
+fn question_in(line: &[u8]) -> Question {
+    if asks(line, b"queue") {
+        return Question::Queue;
+    }
+    if asks(line, b"lamp") {
+        return Question::Lamp;
+    }
+    Question::None
+}
+
+fn is_asked(question: Question) -> bool {
+    match question {
+        Question::None => false,
+        Question::Queue => true,
+        Question::Lamp => true,
+    }
+}
+
+// The line of output that answers a question; none for none.
+fn answer_question(question: Question, state: State, number: u64, out: &mut [u8]) -> usize
+    requires { ⌜ IsState state ⌝ }
+    requires { ⌜ line-room queue-room ≤ length (now out) ⌝ }
+    ensures { λ r. ⌜ r ≤ length (now (out .entry)) ⌝ }
+{
+    match question {
+        Question::None => 0,
+        Question::Queue => session::tell_queue(state, number, out),
+        Question::Lamp => session::tell_lamp(state, number, out),
+    }
 }
 
 fn smaller(a: usize, b: usize) -> usize
@@ -144,8 +182,9 @@ fn print(session: Session, text: &[u8], n: usize, lent: &mut [u8], out: &mut [u8
         }
     }
     let before = session.state;
-    if is_question(line, b"queue") {
-        let count = session::tell_queue(before, session.number, out);
+    let question = question_in(line);
+    if is_asked(question) {
+        let count = answer_question(question, before, session.number, out);
         return Printed {
             session: Session {
                 state: before,

@@ -2,6 +2,7 @@
 //! and the bytes. A refusal writes nothing and changes nothing.
 
 use crate::command::Command;
+use crate::keys::CODES;
 use crate::mouse::Button;
 use crate::rules::Sending;
 use crate::state::{JoystickMode, MouseMode, Role, State, Velocity};
@@ -68,7 +69,7 @@ pub fn step(state: &mut State, input: Input, lent: usize, out: &mut Vec<u8>) -> 
 /// "1 is tested first"
 fn check(input: &Input) -> Answer {
     let within = match *input {
-        Input::Key { code, .. } => (1..=0x72).contains(&code),
+        Input::Key { code, .. } => CODES.contains(&code),
         Input::Motion { dx, dy } => (-64..=64).contains(&dx) && (-64..=64).contains(&dy),
         Input::Stick {
             stick,
@@ -123,9 +124,19 @@ impl State {
         Ok(())
     }
 
+    /// What a key sends; if that is taken, the map follows it.
+    fn key(&mut self, code: u8, down: bool, lent: usize, out: &mut Vec<u8>) -> Answer {
+        let (paused, monitoring) = (self.paused, self.joysticks.is_monitoring());
+        let answer = self.send_key(code, down, lent, out);
+        if self.rules.map_follows(answer, down, paused, monitoring) {
+            self.keys.follow(code, down);
+        }
+        answer
+    }
+
     /// "A key event sends its make when down, its break when up"; "Both
     /// monitoring modes send nothing else for events."
-    fn key(&mut self, code: u8, down: bool, lent: usize, out: &mut Vec<u8>) -> Answer {
+    fn send_key(&mut self, code: u8, down: bool, lent: usize, out: &mut Vec<u8>) -> Answer {
         if self.joysticks.is_monitoring() {
             return Ok(());
         }
@@ -218,11 +229,12 @@ impl State {
         Ok(())
     }
 
-    /// "0x80 then 0x01 resets [...] 0xF0 is sent. 0x80 then another byte: both
-    /// ignored."
+    /// "0x80 then 0x01 resets [...] 0x80 then another byte: both ignored."
+    /// "Reset sends 0xF0 and then the break code of each key in the map"
     fn reset_command(&mut self, parameter: u8, lent: usize, out: &mut Vec<u8>) -> Answer {
         if parameter == 0x01 {
             out.push(0xF0);
+            self.rules.push_breaks(&self.keys, lent, out);
             check_room(lent, out)?;
             self.reset();
         }

@@ -3,11 +3,14 @@
 use std::fmt;
 
 use crate::controller::Input;
+use crate::coverage::keys::{KeyCoverage, Line};
 use crate::limits::BUFFER;
 use crate::program::{session_head, Format, Player};
 use crate::rules::Rules;
 use crate::state::{JoystickMode, MouseMode, Role, State};
 use crate::text::parse;
+
+pub mod keys;
 
 const MOUSE_MODES: [&str; 3] = ["relative", "absolute", "keycode"];
 const JOYSTICK_MODES: [&str; 5] = ["event", "interrogation", "monitoring", "fire", "keycode"];
@@ -38,6 +41,7 @@ pub struct Coverage {
     pub resumes: [u64; 256],
     /// The most bytes that a line wrote.
     pub longest: usize,
+    pub keys: KeyCoverage,
 }
 
 impl Coverage {
@@ -50,6 +54,7 @@ impl Coverage {
             commands: [[0; 2]; 256],
             resumes: [0; 256],
             longest: 0,
+            keys: KeyCoverage::default(),
         };
         let mut player = Player::new(format, Rules::DOCUMENT, BUFFER);
         for line in session.split_inclusive(|&byte| byte == b'\n') {
@@ -77,6 +82,14 @@ impl Coverage {
         if let (Some(Input::Host(byte)), 0) = (input, answer) {
             self.count_command(&before, &player.state, byte);
         }
+        self.keys.count(&Line {
+            text: line,
+            input,
+            before: &before,
+            after: &player.state,
+            lent: player.lent,
+            answer,
+        });
     }
 
     fn count_command(&mut self, before: &State, after: &State, byte: u8) {
@@ -153,7 +166,7 @@ impl fmt::Display for Coverage {
                 )?;
             }
         }
-        Ok(())
+        write!(f, "{}", self.keys)
     }
 }
 

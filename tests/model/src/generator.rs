@@ -8,6 +8,8 @@ use crate::limits::{BUFFER, HELD_LIMIT, QUEUE_ROOM};
 use crate::program::Format;
 use crate::random::Random;
 
+mod stuck_keys;
+
 /// A session of `lines` lines; in the format of vectors, many short ones.
 pub fn session(seed: u64, lines: usize, format: Format) -> Vec<u8> {
     let mut generator = Generator {
@@ -33,7 +35,7 @@ const SCENES: &[(u64, Scene)] = &[
     (40, Generator::ticks),
     (120, Generator::settle),
     (160, Generator::pause),
-    (18, Generator::full_queue),
+    (24, Generator::full_queue),
     (30, Generator::full_queue_of_packets),
     (24, Generator::full_motion),
     (3, Generator::longest_resume),
@@ -52,6 +54,8 @@ const SCENES: &[(u64, Scene)] = &[
     (50, Generator::inquiries),
     (90, Generator::observe),
     (40, Generator::roles),
+    (30, Generator::stuck_keys),
+    (4, Generator::no_keys),
 ];
 
 /// The commands, and how often each comes.
@@ -216,7 +220,8 @@ const BAD_LINES: &[&str] = &[
     "\u{e9}\t1",
 ];
 
-const QUESTION: &str = "?\tqueue";
+const QUEUE: &str = "?\tqueue";
+const LAMP: &str = "?\tlamp";
 
 /// Lines that begin as a question and are none.
 const BAD_QUESTIONS: &[&str] = &[
@@ -243,6 +248,19 @@ const BAD_QUESTIONS: &[&str] = &[
     "?\t1E",
     "?\tB\t13",
     "?\tno question has a word as long as this one is",
+    "?\tLamp",
+    "?\tLAMP",
+    "?\tlamp\t",
+    "?\tlamp ",
+    "?\tlamp\r",
+    "?\tlamps",
+    "?\tlam",
+    "?\tamp",
+    "?\tlamp\tlamp",
+    "?\tlamp\tqueue",
+    "?\t lamp",
+    "?lamp",
+    "? lamp",
 ];
 
 const MONTH_ENDS: &[[u8; 2]] = &[
@@ -311,9 +329,15 @@ impl Generator {
             2 => self.random.below(3) as usize,
             _ => self.random.below(21) as usize,
         };
+        // Some have a buffer for keys that a reset names, and begin with them.
+        let keys = self.random.below(16) < 3;
+        let lent = if keys { self.lent_for_keys() } else { lent };
         self.line(&format!("=\t{lent}"));
         if lent + 1 >= BUFFER && self.random.one_in(40) {
             self.longest_resume();
+        }
+        if keys {
+            self.keys_for(lent);
         }
         // Some have lines enough to fill the queue twice; the more, the rarer.
         let longest = match self.random.one_in(QUEUE_ROOM as u64 / 20) {
@@ -331,17 +355,22 @@ impl Generator {
 
     // Single lines.
 
-    /// Asks what waits in the queue, once in `count` times, and now and then
-    /// badly. The text program has no questions.
+    /// Asks once in `count` times: mostly what waits in the queue, now and then
+    /// how many keys are held, or badly.
     fn ask(&mut self, count: u64) {
-        if self.format == Format::Text || !self.random.one_in(count) {
-            return;
-        }
-        let line = match self.random.below(12) {
+        let question = match self.random.below(12) {
             0 => self.random.pick(BAD_QUESTIONS),
-            _ => QUESTION,
+            1 | 2 => LAMP,
+            _ => QUEUE,
         };
-        self.line(line);
+        self.question(question, count);
+    }
+
+    /// A question, once in `count` times. The text program has none.
+    fn question(&mut self, question: &str, count: u64) {
+        if self.format == Format::Vectors && self.random.one_in(count) {
+            self.line(question);
+        }
     }
 
     fn host(&mut self, byte: u8) {
@@ -768,7 +797,11 @@ impl Generator {
             self.queued_event();
             self.ask(6);
         }
-        self.resume();
+        // A reset tells which of the keys were taken.
+        match self.random.one_in(6) {
+            true => self.reset(),
+            false => self.resume(),
+        }
         self.ask(2);
         self.events();
     }
@@ -1077,7 +1110,10 @@ impl Generator {
             }
             3..=7 => self.spoiled_line(),
             8 if self.format == Format::Text => self.line(&format!("=\t{BUFFER}")),
-            9 if self.format == Format::Text => self.line(QUESTION),
+            9 if self.format == Format::Text => {
+                let line = self.random.pick(&[QUEUE, LAMP]);
+                self.line(line);
+            }
             10 => {
                 let line = self.random.pick(BAD_QUESTIONS);
                 self.line(line);
@@ -1118,7 +1154,8 @@ impl Generator {
             "S\t1\t15\t0",
             "F\t1",
             "T",
-            QUESTION,
+            QUEUE,
+            LAMP,
         ];
         let mut line = self.random.pick(GOOD).as_bytes().to_vec();
         let place = self.random.below(line.len() as u64) as usize;

@@ -1,10 +1,10 @@
 //! A model of the keyboard controller, written from the papers: document 01,
-//! the protocol's text and the readings of them.
+//! request A1 of document 02, the protocol's text and the readings of them.
 //!
 //! `controller::step` takes one input in a state; `text` reads and writes the
 //! lines of the text program. The rest serves the comparison with another
 //! program: sessions made at random, those that the papers state, those for
-//! sentences of document 01, and questions about the state. `ledger` stands
+//! sentences of the papers, and questions about the state. `ledger` stands
 //! apart: it adds up motion and packets, and uses nothing of the controller.
 
 pub mod clock;
@@ -13,6 +13,7 @@ pub mod controller;
 pub mod coverage;
 pub mod generator;
 pub mod joysticks;
+pub mod keys;
 pub mod ledger;
 pub mod limits;
 pub mod mouse;

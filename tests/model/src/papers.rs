@@ -1,6 +1,6 @@
 //! The sessions that the papers state, with the outputs that they state; and
-//! sessions for sentences of document 01 and for questions, with outputs worked
-//! out by hand.
+//! sessions for sentences of document 01, for questions and for the map of
+//! keys, with outputs worked out by hand.
 //!
 //! Sessions are written on one line: `;` parts lines, a space stands for a tab,
 //! bare hex bytes are B lines, `*n` repeats what stands before it. Nothing
@@ -13,6 +13,7 @@ use crate::limits::{BUFFER, QUEUE_ROOM};
 const PAPERS: &str = include_str!("papers.txt");
 const SENTENCES: &str = include_str!("sentences.txt");
 const QUESTIONS: &str = include_str!("questions.txt");
+const KEYS: &str = include_str!("keys.txt");
 
 /// A session and what each of its lines gives.
 #[derive(Clone, Debug, PartialEq, Eq)]
@@ -57,7 +58,8 @@ impl Paper {
     }
 }
 
-/// Every session that the papers state: documents first, then the readings.
+/// Every session that the papers state for document 01: first its own, then
+/// those of the readings.
 pub fn papers() -> Vec<Paper> {
     table(PAPERS)
 }
@@ -70,6 +72,11 @@ pub fn sentences() -> Vec<Paper> {
 /// Every session for a question.
 pub fn questions() -> Vec<Paper> {
     table(QUESTIONS)
+}
+
+/// Every session for request A1: first those of the readings.
+pub fn keys() -> Vec<Paper> {
+    table(KEYS)
 }
 
 fn table(text: &str) -> Vec<Paper> {

@@ -11,6 +11,8 @@ pub fn tell(line: &[u8], state: &State, out: &mut Vec<u8>) -> bool {
     match word {
         // The bytes that wait, oldest first.
         b"queue" => out.extend_from_slice(state.queue.bytes()),
+        // How many keys are held.
+        b"lamp" => out.push(state.rules.lamp(&state.keys)),
         _ => return false,
     }
     true

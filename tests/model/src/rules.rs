@@ -1,7 +1,10 @@
-//! What a deliberately wrong variant changes: numbers of document 01, and what
-//! becomes of held motion that is sent. A comparison that finds no difference,
-//! and a ledger that adds up, are worth something only if they find these.
+//! What a deliberately wrong variant changes: numbers of document 01, what
+//! becomes of held motion that is sent, and the map of keys. A comparison that
+//! finds no difference, and a ledger that adds up, are worth something only if
+//! they find these.
 
+use crate::controller::{Answer, Refusal};
+use crate::keys::{Keys, LAST};
 use crate::limits::{HELD_LIMIT, QUEUE_ROOM};
 
 /// What becomes of held motion that a button or a resume sends.
@@ -16,6 +19,29 @@ pub enum Sending {
     Dropped,
     /// One packet takes what it can, and the rest is lost.
     FirstPacket,
+}
+
+/// What a wrong variant does against request A1.
+#[derive(Clone, Copy, Debug, PartialEq, Eq)]
+pub enum KeyFault {
+    /// Against "the map outlives the reset".
+    EmptiedByReset,
+    /// A press in a monitoring mode does not enter the map.
+    SilentPressLost,
+    /// A release in a monitoring mode does not leave the map.
+    SilentReleaseLost,
+    /// A press while paused does not enter the map.
+    PausedPressLost,
+    /// The breaks after 0xF0 come highest first.
+    HighestFirst,
+    /// A press with this refusal enters the map all the same.
+    EntersRefused(Refusal),
+    /// A reset needs room for 0xF0 alone, and what has none is left out.
+    BreaksCut,
+    /// The lamp shows one key too few.
+    LampTooLow,
+    /// The lamp does not see the last key.
+    LampWithoutLast,
 }
 
 /// The rules by which a state is stepped.
@@ -36,10 +62,12 @@ pub struct Rules {
     pub at_button: Sending,
     /// "then held motion that is due"
     pub at_resume: Sending,
+    /// What is wrong with the map of keys, if anything is.
+    pub key_fault: Option<KeyFault>,
 }
 
 impl Rules {
-    /// The rules as document 01 states them.
+    /// The rules as documents 01 and 02 state them.
     pub const DOCUMENT: Rules = Rules {
         past_threshold: 0,
         break_bit: 0x80,
@@ -48,9 +76,10 @@ impl Rules {
         held_limit: HELD_LIMIT,
         at_button: Sending::Once,
         at_resume: Sending::Once,
+        key_fault: None,
     };
 
-    /// Variant `number`, wrong in one place; any other number is the document.
+    /// Variant `number`, wrong in one place; any other number is the documents.
     pub fn wrong(number: u32) -> Rules {
         let mut rules = Rules::DOCUMENT;
         match number {
@@ -63,7 +92,7 @@ impl Rules {
             7 => rules.at_resume = Sending::AndKept,
             8 => rules.at_button = Sending::Dropped,
             9 => rules.at_resume = Sending::FirstPacket,
-            _ => {}
+            _ => rules.key_fault = wrong_with_keys(number),
         }
         rules
     }
@@ -87,5 +116,64 @@ impl Rules {
     /// Adds a make and break pair to `out`.
     pub fn push_pair(&self, make: u8, out: &mut Vec<u8>) {
         out.extend_from_slice(&[make, make + self.break_bit]);
+    }
+
+    /// Whether the map follows a key event: "Every number but 0 [...] leaves
+    /// state and buffer the same."
+    pub fn map_follows(&self, answer: Answer, down: bool, paused: bool, monitoring: bool) -> bool {
+        match self.key_fault {
+            Some(KeyFault::SilentPressLost) if monitoring && down => false,
+            Some(KeyFault::SilentReleaseLost) if monitoring && !down => false,
+            Some(KeyFault::PausedPressLost) if paused && down => false,
+            Some(KeyFault::EntersRefused(refusal)) if down => {
+                answer.is_ok() || answer == Err(refusal)
+            }
+            _ => answer.is_ok(),
+        }
+    }
+
+    /// Adds to `out` "the break code of each key in the map, lowest first".
+    pub fn push_breaks(&self, keys: &Keys, lent: usize, out: &mut Vec<u8>) {
+        let breaks = keys.held().map(|code| self.key(code, false));
+        match self.key_fault {
+            Some(KeyFault::HighestFirst) => out.extend(breaks.rev()),
+            Some(KeyFault::BreaksCut) => out.extend(breaks.take(lent.saturating_sub(out.len()))),
+            _ => out.extend(breaks),
+        }
+    }
+
+    /// "the map outlives the reset"
+    pub fn map_after_reset(&self, keys: Keys) -> Keys {
+        match self.key_fault {
+            Some(KeyFault::EmptiedByReset) => Keys::POWER_UP,
+            _ => keys,
+        }
+    }
+
+    /// "A lamp on the board shows how many keys are held"
+    pub fn lamp(&self, keys: &Keys) -> u8 {
+        match self.key_fault {
+            Some(KeyFault::LampTooLow) => keys.count().saturating_sub(1),
+            Some(KeyFault::LampWithoutLast) => keys.count() - u8::from(keys.is_down(LAST)),
+            _ => keys.count(),
+        }
+    }
+}
+
+/// The variants from 10 on. Those from 16 on show only in a buffer that is too
+/// short or in the lamp, so that no line of the text program can tell them.
+fn wrong_with_keys(number: u32) -> Option<KeyFault> {
+    match number {
+        10 => Some(KeyFault::EmptiedByReset),
+        11 => Some(KeyFault::SilentPressLost),
+        12 => Some(KeyFault::SilentReleaseLost),
+        13 => Some(KeyFault::PausedPressLost),
+        14 => Some(KeyFault::HighestFirst),
+        15 => Some(KeyFault::EntersRefused(Refusal::QueueFull)),
+        16 => Some(KeyFault::EntersRefused(Refusal::NoRoom)),
+        17 => Some(KeyFault::BreaksCut),
+        18 => Some(KeyFault::LampTooLow),
+        19 => Some(KeyFault::LampWithoutLast),
+        _ => None,
     }
 }

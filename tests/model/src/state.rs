@@ -3,6 +3,7 @@
 use crate::clock::Clock;
 use crate::command::Command;
 use crate::joysticks::Joysticks;
+use crate::keys::Keys;
 use crate::limits::QUEUE_ROOM;
 use crate::mouse::Mouse;
 use crate::rules::Rules;
@@ -108,6 +109,7 @@ pub struct State {
     pub queue: Queue,
     pub clock: Clock,
     pub command: Command,
+    pub keys: Keys,
 }
 
 impl State {
@@ -121,15 +123,17 @@ impl State {
             queue: Queue::EMPTY,
             clock: Clock::POWER_UP,
             command: Command::default(),
+            keys: Keys::POWER_UP,
         }
     }
 
     /// "everything but the clock goes to power-up, queue and held motion are
-    /// dropped"
+    /// dropped"; request A1 adds that "the map outlives the reset".
     pub fn reset(&mut self) {
-        let clock = self.clock;
+        let (clock, keys) = (self.clock, self.rules.map_after_reset(self.keys));
         *self = State::power_up(self.rules);
         self.clock = clock;
+        self.keys = keys;
     }
 
     /// "Live: on, port 0 mouse, not monitoring."

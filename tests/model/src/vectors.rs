@@ -1,9 +1,10 @@
 //! Sessions with the length of their buffer, and their expected outputs: those
 //! of the papers, resumes with every length of buffer, bad input in every mode,
-//! sentences of document 01, and questions.
+//! sentences of document 01, questions, and the map of keys.
 
+use crate::keys::{CODES, COUNT};
 use crate::limits::{BUFFER, HELD_LIMIT, QUEUE_ROOM};
-use crate::papers::{lines, papers, questions, sentences, Paper};
+use crate::papers::{keys, lines, papers, questions, sentences, Paper};
 use crate::program::{Format, Player};
 use crate::rules::Rules;
 
@@ -23,9 +24,10 @@ pub struct Session {
 }
 
 const FROM_PAPERS: &str = "\
-The papers' own sessions. Every output line is stated by the papers. (Readings \
-58 and 65 stand there with later requests; by document 01 alone their bytes are \
-the same.)";
+The papers' own sessions. Every output line is stated by the papers. (Reading 9 \
+stands there by document 01 alone, with F0 in its line 4: A1 adds to it the \
+break of the key that is down. Reading 65 stands there with a later request; \
+without it its bytes are the same.)";
 
 const SHORT_BUFFERS: &str = "\
 A resume with a buffer of every length from 0 to 20. Paused, three keys go to \
@@ -45,13 +47,27 @@ modes. (In the paused sessions 13 stands before the bad event and 11 after it.)"
 const SENTENCES: &str = "\
 Sentences of document 01 that no session above shows, or only in part. A title \
 is the sentence or a part of it; every output line is worked out by hand from \
-document 01. Some clearing shows in no output, because the way back clears too: \
-held motion by 0x12, coordinates by 0x08 and 0x0A, repeat counts by 0x14, 0x15, \
-0x17 and 0x18, ticks and samples by leaving a monitoring mode. There the model's \
-own tests look at the state.";
+document 01, as request A1 amends its reset. Some clearing shows in no output, \
+because the way back clears too: held motion by 0x12, coordinates by 0x08 and \
+0x0A, repeat counts by 0x14, 0x15, 0x17 and 0x18, ticks and samples by leaving \
+a monitoring mode. There the model's own tests look at the state.";
 
 const QUESTIONS: &str = "\
-Questions. Every output line is worked out by hand.";
+Questions about the queue. Every output line is worked out by hand.";
+
+const KEYS: &str = "\
+Request A1, which keys are down: first its readings, of which the papers state \
+the outputs of 82 and 83, and of 113 that the break comes without its make; then \
+its sentences and document 01's refusals, with `lamp` asked in most. Every other \
+output line is worked out by hand.";
+
+const ALL_KEYS: &str = "\
+A reset with all 114 keys down. The mouse is switched off, the keys are pressed, \
+highest first, and then 80 01 comes: due are F0 and 114 breaks, 115 bytes, so a \
+shorter buffer gives 4 and the reset stays half received. Key 72 is released \
+and 01 comes again: where the reset waits for it, 114 bytes are due. The same \
+with key 01: 113 bytes. Then a whole 80 01, but to a reset that still waits its \
+80 is another byte. Last, 92 tells whether the mouse is on again.";
 
 /// All sessions.
 pub fn groups() -> Vec<Group> {
@@ -68,6 +84,11 @@ pub fn groups() -> Vec<Group> {
         },
         group(SENTENCES, sentences()),
         group(QUESTIONS, questions()),
+        group(KEYS, keys()),
+        group(
+            ALL_KEYS,
+            (COUNT - 2..=COUNT + 2).map(all_keys_down).collect(),
+        ),
     ]
 }
 
@@ -135,6 +156,36 @@ fn longest_resume(lent: usize) -> Paper {
         format!("{}:{resumed}F60A010100000000", last - 1)
     };
     Paper::new(&format!("buffer {lent}"), lent, &session, &output)
+}
+
+fn all_keys_down(lent: usize) -> Paper {
+    let presses: Vec<String> = CODES.rev().map(|code| format!("K {code:02X} 1")).collect();
+    let releases = "K 72 0; ? lamp; 01; ? lamp; K 01 0; ? lamp; 01";
+    let session = format!(
+        "12; {}; ? lamp; 80 01; ? lamp; {releases}; 80 01; ? lamp; 92",
+        presses.join("; ")
+    );
+    let makes = (2..).zip(CODES.rev());
+    let makes: String = makes
+        .map(|(line, code)| format!("{line}:{code:02X} "))
+        .collect();
+    let told = "116:72 119:72 120:F2 121:71 123:71 124:81 125:70 129:70";
+    let (all, but_last, but_ends) = (named(0x81, 0xF2), named(0x81, 0xF1), named(0x82, 0xF1));
+    let (on, off) = ("130:F600000000000000", "130:F612000000000000");
+    let resets = match lent {
+        115.. => format!("118:{all} 128:{but_ends} {on}"),
+        114 => format!("118:(4) 122:{but_last} 128:{but_ends} {on}"),
+        113 => format!("118:(4) 122:(4) 126:{but_ends} 128:{but_ends} {on}"),
+        _ => format!("118:(4) 122:(4) 126:(4) {off}"),
+    };
+    let output = format!("{makes}{told} {resets}");
+    Paper::new(&format!("buffer {lent}"), lent, &session, &output)
+}
+
+/// What a reset sends when the keys with these breaks are down.
+fn named(first: u8, last: u8) -> String {
+    let breaks = (first..=last).map(|code| format!("{code:02X}"));
+    ["F0".into()].into_iter().chain(breaks).collect()
 }
 
 /// Each number of each event outside its range.

@@ -3,6 +3,7 @@
 
 use model::coverage::Coverage;
 use model::generator::session;
+use model::keys::COUNT;
 use model::limits::{BUFFER, QUEUE_ROOM};
 use model::program::{session_head, Format, Player};
 use model::rules::Rules;
@@ -13,6 +14,18 @@ fn played(session: &[u8], rules: Rules) -> Vec<u8> {
     let mut out = Vec::new();
     for line in session.split_inclusive(|&byte| byte == b'\n') {
         player.play(line.strip_suffix(b"\n").unwrap_or(line), &mut out);
+    }
+    out
+}
+
+fn played_vectors(session: &[u8], rules: Rules) -> Vec<u8> {
+    let mut player = Player::new(Format::Vectors, rules, BUFFER);
+    let mut out = Vec::new();
+    for line in session.split(|&byte| byte == b'\n') {
+        match session_head(line) {
+            Some(lent) => player.restart(lent),
+            None => drop(player.play(line, &mut out)),
+        }
     }
     out
 }
@@ -40,15 +53,19 @@ fn a_session_has_as_many_lines_as_asked() {
 
 #[test]
 fn the_buffers_of_the_short_sessions() {
-    let text = session(1, 100_000, Format::Vectors);
-    let heads: Vec<usize> = text
-        .split(|&byte| byte == b'\n')
-        .filter_map(session_head)
-        .collect();
-    for length in (0..=20).chain([BUFFER - 1, BUFFER]) {
-        assert!(heads.contains(&length));
+    // The seeds and lines of tests/run, which names these lengths.
+    let heads: Vec<usize> = (1..=60).flat_map(heads_of).collect();
+    for length in (0..=COUNT + 2).chain([BUFFER - 1, BUFFER]) {
+        assert!(heads.contains(&length), "no buffer of {length}");
     }
-    assert!(heads.len() > 1000);
+    let short = heads.iter().filter(|&&length| length <= 20).count();
+    assert!(heads.len() > 10_000 && short > heads.len() / 2);
+}
+
+fn heads_of(seed: u64) -> Vec<usize> {
+    let text = session(seed, 13_000, Format::Vectors);
+    let lines = text.split(|&byte| byte == b'\n');
+    lines.filter_map(session_head).collect()
 }
 
 #[test]
@@ -65,6 +82,24 @@ fn every_answer_and_every_pair_of_modes_is_met() {
         assert!(pairs.iter().all(|&lines| lines > 100));
         let roles = coverage.roles.as_flattened().as_flattened();
         assert!(roles.iter().all(|&lines| lines > 100));
+    }
+}
+
+/// Every buffer that a reset may need is lent with one while keys are down: up
+/// to 0xF0 and 114 breaks, and a byte more.
+#[test]
+fn keys_and_resets_meet_in_every_way() {
+    for format in [Format::Text, Format::Vectors] {
+        let keys = Coverage::of(&session(1, 800_000, format), format).keys;
+        assert_eq!((keys.met.len(), keys.met_with_vectors.len()), (18, 11));
+        assert!(keys.met.values().all(|&count| count > 40));
+        match format {
+            Format::Text => assert!(keys.met_with_vectors.values().all(|&count| count == 0)),
+            Format::Vectors => {
+                assert!(keys.met_with_vectors.values().all(|&count| count > 10));
+                assert!((0..=COUNT + 2).all(|lent| keys.lent.contains(&lent)));
+            }
+        }
     }
 }
 
@@ -97,6 +132,9 @@ fn questions_are_asked_where_they_show_something() {
             for (count, met) in good.iter_mut().zip(met) {
                 *count += u32::from(met);
             }
+        } else if line == b"?\tlamp" {
+            assert_eq!((answer, player.written()), (0, 1));
+            assert_eq!(player.state, before);
         } else if line.starts_with(b"?") {
             assert_eq!(answer, BAD_LINE);
             bad += 1;
@@ -112,8 +150,25 @@ fn questions_are_asked_where_they_show_something() {
 fn the_wrong_variants_are_seen() {
     let text = session(1, 100_000, Format::Text);
     let right = played(&text, Rules::DOCUMENT);
-    for number in 1..=9 {
-        assert_ne!(played(&text, Rules::wrong(number)), right);
+    for number in 1..=15 {
+        assert_ne!(played(&text, Rules::wrong(number)), right, "{number}");
     }
-    assert_eq!(played(&text, Rules::wrong(0)), right);
+    for number in [0, 16, 17, 18, 19, 20] {
+        assert_eq!(played(&text, Rules::wrong(number)), right, "{number}");
+    }
+}
+
+/// Those that only short buffers and the lamp show.
+#[test]
+fn the_wrong_variants_of_the_vectors_are_seen() {
+    let text = session(1, 100_000, Format::Vectors);
+    let right = played_vectors(&text, Rules::DOCUMENT);
+    for number in 10..=19 {
+        assert_ne!(
+            played_vectors(&text, Rules::wrong(number)),
+            right,
+            "{number}"
+        );
+    }
+    assert_eq!(played_vectors(&text, Rules::wrong(20)), right);
 }

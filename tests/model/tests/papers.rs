@@ -4,7 +4,7 @@ use model::clock::Clock;
 use model::controller::{answer_number, step, Input};
 use model::joysticks::Joysticks;
 use model::limits::BUFFER;
-use model::papers::{lines, papers, questions, sentences, Paper};
+use model::papers::{keys, lines, papers, questions, sentences, Paper};
 use model::program::{run, Format, Player};
 use model::rules::Rules;
 use model::state::{JoystickMode, Role, State, Velocity};
@@ -20,11 +20,12 @@ fn text_program(input: &str, format: Format) -> String {
 /// Every session of the tables gives its stated output, line by line.
 #[test]
 fn every_session_gives_its_stated_output() {
-    let (papers, sentences, questions) = (papers(), sentences(), questions());
+    let (papers, sentences, questions, keys) = (papers(), sentences(), questions(), keys());
     assert_eq!(papers.len(), 17 + 78 + 7);
     assert_eq!(sentences.len(), 20);
     assert_eq!(questions.len(), 12);
-    let stated = [papers, sentences, questions].concat();
+    assert_eq!(keys.len(), 4 + 28);
+    let stated = [papers, sentences, questions, keys].concat();
     for Paper { title, .. } in stated.iter().filter(|paper| !holds(paper)) {
         eprintln!("not as stated: {title}");
     }
@@ -86,11 +87,11 @@ fn a_head_starts_a_session_with_its_buffer() {
 /// The text program has no questions, and bad lines are no questions.
 #[test]
 fn questions_are_for_vectors_alone() {
-    let input = "B\t13\nK\t1E\t1\n?\tqueue\nK\t1E\t0\n?\tqueues\n?\tqueue";
-    let told = "1\t0\t-\n2\t0\t-\n3\t0\t1E\n4\t0\t-\n5\t9\t-\n6\t0\t1E9E\n";
+    let input = "B\t13\nK\t1E\t1\n?\tqueue\n?\tlamp\n?\tqueues\n?\tqueue";
+    let told = "1\t0\t-\n2\t0\t-\n3\t0\t1E\n4\t0\t01\n5\t9\t-\n6\t0\t1E\n";
     assert_eq!(text_program(input, Format::Vectors), told);
     let header = std::str::from_utf8(HEADER).unwrap();
-    let bad = "1\t0\t-\n2\t0\t-\n3\t9\t-\n4\t0\t-\n5\t9\t-\n6\t9\t-\n";
+    let bad = "1\t0\t-\n2\t0\t-\n3\t9\t-\n4\t9\t-\n5\t9\t-\n6\t9\t-\n";
     assert_eq!(text_program(input, Format::Text), format!("{header}{bad}"));
 }
 

@@ -5,7 +5,6 @@ use native.Mathlib.Omega.{arith}
 use mathlib.Core.Path.{sym}
 use lib.ListN.{length, length-take}
 use lib.Seq.{length-take-le}
-use Rattle.controller.proofs.Lengths.{queue-small}
 use Rattle.session.proofs.Feeding.{wrote-within}
 use borrow.Author.Needs.{needs}
 use Rattle.vectors.proofs.print.Statement.{statement}
@@ -51,19 +50,19 @@ returns c =
     let at-if2 = c .before .before .before .before .before .before in
     (c .power-up .ensures .0, (omega (arith, c .power-up .ensures .1), omega (arith, at-if2 .if2 .taken)))
 
-slice-aggregate-is-question : tie.Need-slice-aggregate-is-question
-slice-aggregate-is-question c = search needs
+question-in-requires : tie.Need-question-in-requires
+question-in-requires c κs = search needs
 
-is-question-requires : tie.Need-is-question-requires
-is-question-requires c κs = search needs
+is-asked-requires : tie.Need-is-asked-requires
+is-asked-requires c κs = search needs
 
-tell-queue-requires : tie.Need-tell-queue-requires
-tell-queue-requires c κs =
+answer-question-requires : tie.Need-answer-question-requires
+answer-question-requires c κs =
     let s = c .before .before .before .before .before .before .before .before .before .before .before in
-    (s .pre .1 .0, omega (arith, queue-small (s .args .session .state) (s .pre .1 .0), s .pre .1 .1 .1))
+    (s .pre .1 .0, omega (arith, s .pre .1 .1 .1))
 
-add-t28 : tie.Need-add-t28
-add-t28 c =
+add-t26 : tie.Need-add-t26
+add-t26 c =
     let s = c .before .before .before .before .before .before .before .before .before .before .before .before .before .before .before in
     omega (arith, s .pre .1 .1 .0)
 
@@ -73,7 +72,7 @@ same-length-2 c = search needs
 returns-2 : tie.Need-returns-2
 returns-2 c =
     let s = c .before .before .before .before .before .before .before .before .before .before .before .before .before .before .before in
-    (s .pre .1 .0, (omega arith, omega (arith, wrote-within (c .before .before .before .tell-queue .ensures), c .before .before .out2 .given)))
+    (s .pre .1 .0, (omega arith, omega (arith, c .before .before .before .answer-question .ensures, c .before .before .out2 .given)))
 
 smaller-requires : tie.Need-smaller-requires
 smaller-requires c κs = search needs
@@ -89,8 +88,8 @@ play-requires c κs =
     let s = c .before .before .before .before .before .before .before .before .before .before .before .before .before in
     (s .pre .1 .0, (omega (arith, s .pre .0), simp length-take (omega (arith, s .pre .1 .1 .1))))
 
-add-t35 : tie.Need-add-t35
-add-t35 c =
+add-t33 : tie.Need-add-t33
+add-t33 c =
     let s = c .before .before .before .before .before .before .before .before .before .before .before .before .before .before .before .before .before .before .before .before in
     omega (arith, s .pre .1 .1 .0)
 
@@ -118,17 +117,17 @@ print-spec =
     add-t22
     same-length
     returns
-    slice-aggregate-is-question
-    is-question-requires
-    tell-queue-requires
-    add-t28
+    question-in-requires
+    is-asked-requires
+    answer-question-requires
+    add-t26
     same-length-2
     returns-2
     smaller-requires
     slice-relend-prefix-play
     slice-aggregate-play
     play-requires
-    add-t35
+    add-t33
     same-length-3
     same-length-4
     returns-3)

@@ -22,10 +22,10 @@ the session, the answer (9 for a bad line) and the bytes in hex or `-`. Both, an
 this list, are written by `write_vectors` of `tests/model`; the gate writes them
 anew and looks that they are the same.
 
-A question is a line `?`, a tab and a word. It is no input: nothing changes, and
-the lent buffer does not matter. `queue` asks for the bytes that wait in the
-queue, oldest first, and its answer is 0. Any other line that begins with `?` is
-a bad line.
+A question is a line `?`, a tab and a word. It is no input: nothing changes, the
+lent buffer does not matter, and its answer is 0. `queue` asks for the bytes that
+wait in the queue, oldest first; `lamp` asks how many keys are held, one byte.
+Any other line that begins with `?` is a bad line.
 
 The sessions, in order:
 ";

@@ -1,7 +1,7 @@
 -- `controller::Core::apply` meets its contract: at each return, what was tested and written is what the step says.
 -- What `search` finds by itself stands in the list at the end.
 -- Assumes nothing.
-use Prim.Native.Nat.{ℕ, _≤_}
+use Prim.Native.Nat.{_≤_}
 use native.Mathlib.Omega.{arith}
 use mathlib.Core.Path.{_≡_, refl, sym, ap, _∙_}
 use mathlib.Core.Bool.{true, true≢false}
@@ -24,14 +24,12 @@ use Rattle.sticks.specs.Events.{stick-moved}
 use Rattle.sticks.specs.Ticks.{ticked, sampled}
 use Rattle.sticks.proofs.Lengths.{stick-moved-length, sampled-length, ticked-length}
 use Rattle.controller.specs.declared.Input.the-variants.{Byte, Key, Button, Move, Joystick, Sample, Tick}
-use Rattle.controller.specs.Events.{event, key-packets, stick-of}
+use Rattle.controller.specs.Events.{event, map-after, key-packets, stick-of}
 use Rattle.controller.specs.Step.{due, in-range, too-far}
-use Rattle.controller.specs.Applying.{joined}
 use Rattle.controller.proofs.Numbers.{key-small}
 use Rattle.controller.proofs.Lengths.{key-length, event-most}
-use Rattle.controller.proofs.Hosts.{Completes, Acts, within-limit, half-did, ignored-did, paused-did, reset-short-did, reset-did}
-use Rattle.controller.proofs.Applying.{Given, state-of, for-input, waits, applied, range-as, far-as, event-as, stays, run-short, key-comes, told-comes, told-short, pressed-comes, pressed-short, moved-comes, motion-fits, flush-lengths, flushed-as, kept-as, reset-as}
-use Rattle.controller.specs.declared.Answer.the-variants.{Taken}
+use Rattle.controller.proofs.Hosts.{Completes, Acts, within-limit, half-did, ignored-did, paused-did}
+use Rattle.controller.proofs.Applying.{Given, state-of, for-input, waits, applied, range-as, far-as, event-as, stays, run-short, key-comes, told-comes, told-short, pressed-comes, pressed-short, moved-comes, motion-fits, flush-lengths, flushed-as, kept-as, reset-as, reset-kept-as}
 use borrow.Author.Needs.{needs}
 use Rattle.controller.proofs.Core.apply.Statement.{statement}
 use Rattle.controller.proofs.Core.apply.Tie as tie
@@ -112,13 +110,18 @@ acts-so c = record {
 
 key-bytes-requires : tie.Need-key-bytes-requires
 key-bytes-requires c κs =
-    key-small (c .before .before .before .input .given .0 .0) true (sym (c .before .key-in-range .ensures) ∙ c .if1 .taken)
+    key-small (c .before .before .before .input .given .0 .0) true (sym (c .before .key-in-range .ensures) ∙ c .if1 .taken) .1
 
 send-short-requires : tie.Need-send-short-requires
 send-short-requires c κs =
     let at-input = c .before .before .before .before .before .before in let s = at-input .before .before .before .before .before in
     let v = at-input .input .given .0 in let k = s .args .self in
     (run-short (bytes (key-packets (k .settings) (v .0) (v .1 .0))) (c .before .before .key-bytes .ensures) (omega (arith, key-length (k .settings) (v .0) (v .1 .0))), waits (given s))
+
+keys-after-requires : tie.Need-keys-after-requires
+keys-after-requires c κs =
+    let at-key-bytes = c .before .before .before .before .before .before .before .before in
+    key-small (at-key-bytes .before .before .before .before .input .given .0 .0) true (sym (at-key-bytes .before .before .key-in-range .ensures) ∙ at-key-bytes .before .if1 .taken)
 
 send-motion-requires : tie.Need-send-motion-requires
 unfolding event in-range
@@ -178,10 +181,10 @@ send-short-requires-4 c κs =
     let k = s .args .self in
     (told-short (ticked (k .paused) (k .settings) (k .sticks)) (c .before .before .before .ticked .ensures) (omega (arith, ticked-length (k .paused) (k .settings) (k .sticks))), waits (given s))
 
-clear-requires : tie.Need-clear-requires
-clear-requires c κs =
-    let s = c .before .before .before .before .before .before .before .before .before .before .before .before .before .before .before .before .before .before .before .before .before .before .before in
-    waits (given s)
+send-reset-requires : tie.Need-send-reset-requires
+send-reset-requires c κs =
+    let s = c .before .before .before .before .before .before .before .before .before .before .before .before .before .before .before .before .before .before .before .before .before .before in
+    (s .pre .ranges .keys, waits (given s))
 
 acts-requires : tie.Need-acts-requires
 acts-requires c κs =
@@ -196,14 +199,14 @@ flush-requires c κs =
     flush-lengths g b x (at-feed .feed .result) (at-meaning-of .meaning-of .result) (completes (at-meaning-of)) (sym (at-if8 .before .executes .ensures) ∙ not-false _ (at-if8 .if8 .left)) (at-acts .before .before .before .resumes .result) (at-acts .acts .result) (acts-so (at-acts))
 
 returns : tie.Need-returns
-unfolding due in-range too-far
+unfolding due in-range too-far map-after
 returns c =
-    let at-send-short = c .before .before .before .before in let at-key-bytes = at-send-short .before .before .before in let at-input = at-key-bytes .before .before .before .before in
+    let at-send-short = c .before .before .before .before .before .before in let at-key-bytes = at-send-short .before .before .before in let at-input = at-key-bytes .before .before .before .before in
     let s = at-input .before .before .before .before .before in
     let v = at-input .input .given .0 in let k = s .args .self in let b = at-send-short .send-short .result .taken in
     for-input (given s) (at-input .input .given .1)
     (event-as (given s) (Key (v .0) (v .1 .0)) (refl, tt) (sym (at-key-bytes .before .before .key-in-range .ensures) ∙ at-key-bytes .before .if1 .taken) (key-comes (given s) (v .0) (v .1 .0) (at-key-bytes .key-bytes .ensures)) (λ _. refl)
-    (at-send-short .send-short .ensures) (stays b (k .mouse)) (stays b (k .sticks)) (stays b (k .clock)))
+    (at-send-short .send-short .ensures) (stays b (k .mouse)) (stays b (k .sticks)) (stays b (k .clock)) (c .keys-after .ensures))
 
 returns-2 : tie.Need-returns-2
 unfolding due in-range
@@ -213,14 +216,14 @@ returns-2 c =
     for-input (given s) (at-input .input .given .1) (range-as (given s) (Key (v .0) (v .1 .0)) (refl, tt) (sym (c .before .key-in-range .ensures) ∙ c .if1 .left))
 
 returns-3 : tie.Need-returns-3
-unfolding due in-range event too-far
+unfolding due in-range event too-far map-after
 returns-3 c =
     let at-send-motion = c .before .before .before .before .before in let at-presses = at-send-motion .before .before .before .before .before in let at-input2 = at-presses .before .before .before in
     let s = at-input2 .before .before .before .before .before in
     let v = at-input2 .input2 .given .0 in let k = s .args .self in let b = at-send-motion .send-motion .result .taken in
     for-input (given s) (at-input2 .input2 .given .1)
     (event-as (given s) (Button (v .0) (v .1 .0)) (refl, tt) refl (pressed-comes (presses (k .settings) (v .0) (v .1 .0) (k .mouse)) (k .sticks) (k .clock) (at-presses .presses .ensures)) (λ _. refl)
-    (at-send-motion .send-motion .ensures) (c .mouse-after .ensures) (stays b (k .sticks)) (stays b (k .clock)))
+    (at-send-motion .send-motion .ensures) (c .mouse-after .ensures) (stays b (k .sticks)) (stays b (k .clock)) (stays b (k .keys)))
 
 returns-4 : tie.Need-returns-4
 unfolding due
@@ -231,7 +234,7 @@ returns-4 c =
     (far-as (given s) (Move (v .0) (v .1 .0)) (refl, tt) (sym (move-range (at-move-in-range)) ∙ at-if3 .before .before .if2 .taken) p (far-known (at-if3) p ∙ c .if4 .taken))
 
 returns-5 : tie.Need-returns-5
-unfolding due event
+unfolding due event map-after
 returns-5 c =
     let at-send-motion2 = c .before .before .before .before .before in let at-none = at-send-motion2 .before .before .before in let at-moves = at-none .before .before in let at-if3 = at-moves .before .before in
     let at-move-in-range = at-if3 .before .before .before in let at-input3 = at-move-in-range .before .before in let s = at-input3 .before .before .before .before .before in
@@ -239,7 +242,7 @@ returns-5 c =
     let moved = moved-comes (k .paused) (k .settings) (v .0) (v .1 .0) (k .mouse) (k .sticks) (k .clock) (moved-told (at-moves)) (at-none .none .ensures) in
     for-input (given s) (at-input3 .input3 .given .1)
     (event-as (given s) (Move (v .0) (v .1 .0)) (refl, tt) (sym (move-range (at-move-in-range)) ∙ at-if3 .before .before .if2 .taken) moved (λ p. far-known (at-if3) p ∙ at-moves .before .if4 .left)
-    (at-send-motion2 .send-motion2 .ensures) (c .mouse-after2 .ensures) (stays b (k .sticks)) (stays b (k .clock)))
+    (at-send-motion2 .send-motion2 .ensures) (c .mouse-after2 .ensures) (stays b (k .sticks)) (stays b (k .clock)) (stays b (k .keys)))
 
 returns-6 : tie.Need-returns-6
 unfolding due
@@ -249,14 +252,14 @@ returns-6 c =
     for-input (given s) (at-input3 .input3 .given .1) (range-as (given s) (Move (v .0) (v .1 .0)) (refl, tt) (sym (move-range (at-move-in-range)) ∙ c .if2 .left))
 
 returns-7 : tie.Need-returns-7
-unfolding due event too-far
+unfolding due event too-far map-after
 returns-7 c =
     let at-send-short2 = c .before .before .before .before .before in let at-stick-told = at-send-short2 .before .before .before .before in let at-stick-in-range = at-stick-told .before .before .before in
     let at-input4 = at-stick-in-range .before .before in let s = at-input4 .before .before .before .before .before in
     let v = at-input4 .input4 .given .0 in let k = s .args .self in let b = at-send-short2 .send-short2 .result .taken in
     for-input (given s) (at-input4 .input4 .given .1)
     (event-as (given s) (Joystick (v .0) (v .1 .0) (v .1 .1 .0)) (refl, tt) (sym (stick-range (at-stick-in-range)) ∙ at-stick-told .before .before .if5 .taken)
-    (told-comes (stick-moved (k .settings) (eqb (natAbs (v .0)) 1) (stick-of (v .1 .0) (v .1 .1 .0)) (k .sticks)) (k .mouse) (k .clock) (stick-told (at-stick-told))) (λ _. refl) (at-send-short2 .send-short2 .ensures) (stays b (k .mouse)) (c .sticks-after .ensures) (stays b (k .clock)))
+    (told-comes (stick-moved (k .settings) (eqb (natAbs (v .0)) 1) (stick-of (v .1 .0) (v .1 .1 .0)) (k .sticks)) (k .mouse) (k .clock) (stick-told (at-stick-told))) (λ _. refl) (at-send-short2 .send-short2 .ensures) (stays b (k .mouse)) (c .sticks-after .ensures) (stays b (k .clock)) (stays b (k .keys)))
 
 returns-8 : tie.Need-returns-8
 unfolding due
@@ -266,14 +269,14 @@ returns-8 c =
     for-input (given s) (at-input4 .input4 .given .1) (range-as (given s) (Joystick (v .0) (v .1 .0) (v .1 .1 .0)) (refl, tt) (sym (stick-range (at-stick-in-range)) ∙ c .if5 .left))
 
 returns-9 : tie.Need-returns-9
-unfolding due event too-far
+unfolding due event too-far map-after
 returns-9 c =
     let at-send-short3 = c .before .before .before .before .before in let at-sample-told = at-send-short3 .before .before .before .before in let at-sample-in-range = at-sample-told .before .before .before in
     let at-input5 = at-sample-in-range .before .before in let s = at-input5 .before .before .before .before .before in
     let v = at-input5 .input5 .given .0 in let k = s .args .self in let b = at-send-short3 .send-short3 .result .taken in
     for-input (given s) (at-input5 .input5 .given .1)
     (event-as (given s) (Sample (v .0)) (refl, tt) (sym (sample-range (at-sample-in-range)) ∙ at-sample-told .before .before .if6 .taken)
-    (told-comes (sampled (k .paused) (k .settings) (natAbs (v .0)) (k .sticks)) (k .mouse) (k .clock) (sample-told (at-sample-told))) (λ _. refl) (at-send-short3 .send-short3 .ensures) (stays b (k .mouse)) (c .sticks-after2 .ensures) (stays b (k .clock)))
+    (told-comes (sampled (k .paused) (k .settings) (natAbs (v .0)) (k .sticks)) (k .mouse) (k .clock) (sample-told (at-sample-told))) (λ _. refl) (at-send-short3 .send-short3 .ensures) (stays b (k .mouse)) (c .sticks-after2 .ensures) (stays b (k .clock)) (stays b (k .keys)))
 
 returns-10 : tie.Need-returns-10
 unfolding due
@@ -283,13 +286,13 @@ returns-10 c =
     for-input (given s) (at-input5 .input5 .given .1) (range-as (given s) (Sample (v .0)) (refl, tt) (sym (sample-range (at-sample-in-range)) ∙ c .if6 .left))
 
 returns-11 : tie.Need-returns-11
-unfolding due in-range event too-far
+unfolding due in-range event too-far map-after
 returns-11 c =
     let at-send-short4 = c .before .before .before .before .before .before in let at-ticked = at-send-short4 .before .before .before .before in let s = at-ticked .before .before .before .before .before .before .before .before in
     let k = s .args .self in let b = at-send-short4 .send-short4 .result .taken in
     for-input (given s) (at-ticked .before .before .before .enum-told .given .1)
     (event-as (given s) Tick (refl, tt) refl (told-comes (ticked (k .paused) (k .settings) (k .sticks)) (k .mouse) (tick (k .clock)) (at-ticked .ticked .ensures)) (λ _. refl)
-    (at-send-short4 .send-short4 .ensures) (stays b (k .mouse)) (c .before .sticks-after3 .ensures) (c .clock-after .ensures))
+    (at-send-short4 .send-short4 .ensures) (stays b (k .mouse)) (c .before .sticks-after3 .ensures) (c .clock-after .ensures) (stays b (k .keys)))
 
 returns-12 : tie.Need-returns-12
 returns-12 c =
@@ -314,20 +317,21 @@ returns-14 c =
 
 returns-15 : tie.Need-returns-15
 returns-15 c =
-    let at-if8 = c .before .before .before .before .before in let at-meaning-of = at-if8 .before .before in let at-feed = at-meaning-of .before .before .before .before .before in let at-input6 = at-feed .before .before .before in
-    let s = at-input6 .before .before .before .before .before in
-    let b = at-input6 .input6 .given .0 .0 in let g = given s in let x : b ≤ 255 = omega (arith, at-feed .before .before .known-told6 .given) in
-    for-input g (at-input6 .input6 .given .1)
-    (applied g (Byte b) x (reset-short-did (state-of g) b (at-feed .feed .result) (at-meaning-of .meaning-of .result) (g .good) (completes (at-meaning-of)) (sym (at-if8 .before .executes .ensures) ∙ not-false _ (at-if8 .if8 .left)) (sym (c .before .before .is-reset .ensures) ∙ c .before .if10 .taken) (c .if11 .taken) refl))
-
-returns-16 : tie.Need-returns-16
-returns-16 c =
-    let at-if11 = c .before .before .before .before .before .before in let at-if8 = at-if11 .before .before .before .before .before in let at-meaning-of = at-if8 .before .before in
+    let at-send-reset = c .before .before .before .before .before .before .before in let at-if10 = at-send-reset .before .before .before .before in let at-if8 = at-if10 .before .before .before .before in let at-meaning-of = at-if8 .before .before in
     let at-feed = at-meaning-of .before .before .before .before .before in let at-input6 = at-feed .before .before .before in let s = at-input6 .before .before .before .before .before in
     let b = at-input6 .input6 .given .0 .0 in let g = given s in let x : b ≤ 255 = omega (arith, at-feed .before .before .known-told6 .given) in
     for-input g (at-input6 .input6 .given .1)
-    (applied g (Byte b) x (reset-did (state-of g) b (at-feed .feed .result) (at-meaning-of .meaning-of .result) (g .good) (completes (at-meaning-of)) (sym (at-if8 .before .executes .ensures) ∙ not-false _ (at-if8 .if8 .left)) (sym (at-if11 .before .before .is-reset .ensures) ∙ at-if11 .before .if10 .taken) (at-if11 .if11 .left)
-    (ap (λ z. record { answer = Taken; count = 1; state = z }) (reset-as g (c .before .before .before .before .reset-but .ensures) (c .before .before .clear .ensures)))))
+    (reset-as g b x (at-feed .feed .result) (at-meaning-of .meaning-of .result) (completes (at-meaning-of)) (sym (at-if8 .before .executes .ensures) ∙ not-false _ (at-if8 .if8 .left)) (sym (at-if10 .before .is-reset .ensures) ∙ at-if10 .if10 .taken)
+    (at-send-reset .send-reset .ensures) (c .before .before .if11 .taken) (c .reset-but .ensures))
+
+returns-16 : tie.Need-returns-16
+returns-16 c =
+    let at-send-reset = c .before .before .before .before .before in let at-if10 = at-send-reset .before .before .before .before in let at-if8 = at-if10 .before .before .before .before in let at-meaning-of = at-if8 .before .before in
+    let at-feed = at-meaning-of .before .before .before .before .before in let at-input6 = at-feed .before .before .before in let s = at-input6 .before .before .before .before .before in
+    let b = at-input6 .input6 .given .0 .0 in let g = given s in let x : b ≤ 255 = omega (arith, at-feed .before .before .known-told6 .given) in
+    for-input g (at-input6 .input6 .given .1)
+    (reset-kept-as g b x (at-feed .feed .result) (at-meaning-of .meaning-of .result) (completes (at-meaning-of)) (sym (at-if8 .before .executes .ensures) ∙ not-false _ (at-if8 .if8 .left)) (sym (at-if10 .before .is-reset .ensures) ∙ at-if10 .if10 .taken)
+    (at-send-reset .send-reset .ensures) (c .if11 .left))
 
 returns-17 : tie.Need-returns-17
 returns-17 c =
@@ -356,6 +360,7 @@ apply-spec =
     (λ c κs. search needs)
     key-bytes-requires
     send-short-requires
+    keys-after-requires
     (λ c. search needs)
     (λ c κs. search needs)
     send-motion-requires
@@ -388,9 +393,8 @@ apply-spec =
     (λ c κs. search needs)
     (λ c κs. search needs)
     (λ c κs. search needs)
-    (λ c. search needs)
+    send-reset-requires
     (λ c κs. search needs)
-    clear-requires
     (λ c κs. search needs)
     acts-requires
     flush-requires
@@ -421,6 +425,8 @@ apply-spec =
     returns-12
     returns-13
     returns-14
+    (λ c. search needs)
+    (λ c. search needs)
     returns-15
     (λ c. search needs)
     (λ c. search needs)

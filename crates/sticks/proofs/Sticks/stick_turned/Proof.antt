@@ -2,7 +2,7 @@
 -- Assumes nothing.
 use native.Mathlib.Omega.{arith}
 use borrow.Author.Needs.{needs}
-use Rattle.sticks.specs.Keys.{scan-of, stick-turned}
+use Rattle.sticks.specs.Keycode.{scan-of, stick-turned}
 use Rattle.sticks.proofs.Codes.{horizontal-make, vertical-make, axes-told}
 use Rattle.sticks.proofs.Sticks.stick_turned.Statement.{statement}
 use Rattle.sticks.proofs.Sticks.stick_turned.Tie as tie

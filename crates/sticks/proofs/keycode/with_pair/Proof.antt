@@ -1,9 +1,9 @@
--- `sticks::keys::with_pair` meets its contract.
+-- `sticks::keycode::with_pair` meets its contract.
 -- Assumes nothing.
 use borrow.Author.Needs.{needs}
 use borrow.Author.Tests.{eq-eqb, ne-eqb}
-use Rattle.sticks.proofs.keys.with_pair.Statement.{statement}
-use Rattle.sticks.proofs.keys.with_pair.Tie as tie
+use Rattle.sticks.proofs.keycode.with_pair.Statement.{statement}
+use Rattle.sticks.proofs.keycode.with_pair.Tie as tie
 
 returns : tie.Need-returns
 returns c = simp (eq-eqb _ _ (c .if1 .taken))

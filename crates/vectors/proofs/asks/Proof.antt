@@ -1,11 +1,11 @@
--- `vectors::is_question` meets its contract: no place is read past the end of line or word.
+-- `vectors::asks` meets its contract: no place is read past the end of line or word.
 -- Assumes nothing.
 use Prim.Native.Nat.{_+_, _-_, _≤_}
 use mathlib.Core.Path.{_≡_}
 use lib.ListN.{length}
 use borrow.Author.Needs.{needs}
-use Rattle.vectors.proofs.is_question.Statement.{statement}
-use Rattle.vectors.proofs.is_question.Tie as tie
+use Rattle.vectors.proofs.asks.Statement.{statement}
+use Rattle.vectors.proofs.asks.Tie as tie
 
 abbrev Inv-loop : tie.InvT-loop
 Inv-loop line word n i₀ i = (length line ≡ n + 2) × (n ≡ length word) × (i ≤ n)
@@ -58,8 +58,8 @@ loop-again c = search needs
 returns-5 : tie.Need-returns-5 Inv-loop μ-loop
 returns-5 c = search needs
 
-pub is-question-spec : {M : Type 1} → statement M
-is-question-spec =
+pub asks-spec : {M : Type 1} → statement M
+asks-spec =
     tie.close
     (tie.spec
     Inv-loop

@@ -6,7 +6,7 @@ ghost use Rattle.output.specs.Packets.{bytes};
 ghost use Rattle.output.specs.Short.{short-room, short-of};
 ghost use Rattle.sticks.specs.Sticks.{told-of};
 ghost use Rattle.sticks.specs.Events.{keys-sent};
-ghost use Rattle.sticks.specs.Keys.{pair-of, scan-of, with-pair, with-code, due-of};
+ghost use Rattle.sticks.specs.Keycode.{pair-of, scan-of, with-pair, with-code, due-of};
 use crate::AxisTold;
 use crate::Sticks;
 use crate::SticksTold;

@@ -1,9 +1,9 @@
--- `sticks::keys::with_code` meets its contract.
+-- `sticks::keycode::with_code` meets its contract.
 -- Assumes nothing.
 use borrow.Author.Needs.{needs}
 use borrow.Author.Tests.{eq-eqb, ne-eqb}
-use Rattle.sticks.proofs.keys.with_code.Statement.{statement}
-use Rattle.sticks.proofs.keys.with_code.Tie as tie
+use Rattle.sticks.proofs.keycode.with_code.Statement.{statement}
+use Rattle.sticks.proofs.keycode.with_code.Tie as tie
 
 returns : tie.Need-returns
 returns c = simp (eq-eqb _ _ (c .if1 .taken))

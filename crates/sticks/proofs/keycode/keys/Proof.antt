@@ -1,4 +1,4 @@
--- `sticks::keys::keys` meets its contract.
+-- `sticks::keycode::keys` meets its contract.
 -- Assumes nothing.
 use Prim.Native.Nat.{_≤_}
 use native.Mathlib.Omega.{arith}
@@ -8,10 +8,10 @@ use lib.ListN.{length, length-append}
 use borrow.Author.Needs.{needs}
 use Rattle.output.specs.Packets.{bytes}
 use Rattle.output.specs.Short.{short-of}
-use Rattle.sticks.specs.Keys.{pair-of, with-pair, with-code}
+use Rattle.sticks.specs.Keycode.{pair-of, with-pair, with-code}
 use Rattle.sticks.proofs.Codes.{pair-length, pair-added, code-added, keys-bytes}
-use Rattle.sticks.proofs.keys.keys.Statement.{statement}
-use Rattle.sticks.proofs.keys.keys.Tie as tie
+use Rattle.sticks.proofs.keycode.keys.Statement.{statement}
+use Rattle.sticks.proofs.keycode.keys.Tie as tie
 
 -- after the horizontal arrow, and after the vertical one
 first : (c : tie.After-with-pair) → c .with-pair .result ≡ short-of (bytes (pair-of (c .before .before .args .x)))

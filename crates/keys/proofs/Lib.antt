@@ -1,0 +1,4 @@
+pub mod Words
+pub mod Maps
+pub mod Writing
+pub mod Examples
