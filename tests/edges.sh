@@ -23,14 +23,17 @@ as_model "$room/bytes"
 count "every byte alone, after T, as a digit, as a number and as a level" $?
 
 # Every kind of line begins at each distance before a multiple of 65,536; a bad line fills up what lies between.
-at=0
-for line in T $'B\t11' $'K\t1E\t1' $'L\t1' $'M\t-0064\t0064' $'S\t-0001\t-0015\t-0001' $'F\t1' 'none of the lines'; do
-    for ((distance = 0; distance <= ${#line} + 1; distance++)); do
-        fill=$(((2 * 65536 - at - distance - 1) % 65536))
-        printf '%*s\n%s\n' "$fill" '' "$line"
-        at=$(((at + fill + ${#line} + 2) % 65536))
+straddling() { # how many bytes stand before
+    local at=$1 line distance fill
+    for line in T $'B\t11' $'K\t1E\t1' $'L\t1' $'M\t-0064\t0064' $'S\t-0001\t-0015\t-0001' $'F\t1' 'none of the lines'; do
+        for ((distance = 0; distance <= ${#line} + 1; distance++)); do
+            fill=$(((2 * 65536 - at - distance - 1) % 65536))
+            printf '%*s\n%s\n' "$fill" '' "$line"
+            at=$(((at + fill + ${#line} + 2) % 65536))
+        done
     done
-done >"$room/straddling"
+}
+straddling 0 >"$room/straddling"
 as_model "$room/straddling"
 count "lines that lie across the end of a 64 KiB block at every offset" $?
 

@@ -61,6 +61,13 @@ unfolding over
 stored b [] h = absurd (omega arith)
 stored b (x ∷ l) h = record { count = refl; buffer = refl }
 
+-- one byte stored behind what was written
+pub stored-after : (b : ℕ) {a l X : List ℕ} {n : ℕ} → Wrote a n l X → n + 1 ≤ length l → Wrote (a ++ (b ∷ [])) (n + 1) l (set X n b)
+stored-after b {a} {l} w h = record {
+  count = (let c = w .count in let k = length-append a (b ∷ []) in omega arith);
+  buffer = (λ i. set (w .buffer i) (w .count i) b) ∙ over-more (b ∷ []) a l (omega (arith, w .count));
+}
+
 -- what a stage leaves is as long as it was
 pub kept : {a l X : List ℕ} {n : ℕ} → Wrote a n l X → n ≤ length l → length X ≡ length l
 kept {a} {l} p h = rw (p .buffer) (length-over a l (rw (p .count) at h))

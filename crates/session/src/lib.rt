@@ -20,6 +20,7 @@ pub use lines::Fed;
 pub use lines::Session;
 pub use lines::finish;
 pub use lines::keep;
+pub use lines::keep_most;
 pub use lines::line_end;
 
 // The answer to a bad line.

@@ -109,30 +109,39 @@ impl Session {
     }
 }
 
-// How much of `n` bytes of a line is enough to tell what it means.
-fn enough_of(n: usize) -> usize
-    ensures { λ r. ⌜ r ≡ min n (suc longest) ⌝ }
+// The smaller of two numbers.
+fn smaller(a: usize, b: usize) -> usize
+    ensures { λ r. ⌜ r ≡ min a b ⌝ }
 {
-    if n <= Read::LONGEST {
-        return n;
+    if a <= b {
+        return a;
     }
-    Read::LONGEST + 1
+    b
 }
 
-// The line that has not ended yet, from `from` to `n`, goes to the start of the block, where the next bytes follow it. One byte more
-// than the longest good line is enough of it: it is bad then, whatever follows.
-pub fn keep(block: &mut [u8], from: usize, n: usize) -> usize
+// What stands from `from` to `n` goes to the start of the block, where the next bytes follow it, but at most `most` bytes of it.
+pub fn keep_most(block: &mut [u8], from: usize, n: usize, most: usize) -> usize
     requires { ⌜ (from ≤ n) × (n ≤ length (now block)) ⌝ }
-    ensures few { λ r. ⌜ r ≤ suc longest ⌝ }
-    ensures kept { λ r. ⌜ Wrote (cut (drop from (take n (now (block .entry))))) r (now (block .entry)) (now (block .exit)) ⌝ }
+    ensures few { λ r. ⌜ r ≤ most ⌝ }
+    ensures kept { λ r. ⌜ Wrote (take most (drop from (take n (now (block .entry))))) r (now (block .entry)) (now (block .exit)) ⌝ }
 {
-    let k = enough_of(n - from);
+    let k = smaller(n - from, most);
     let mut i = 0;
     while i < k {
         block[i] = block[from + i];
         i += 1;
     }
     k
+}
+
+// The line that has not ended yet, from `from` to `n`. One byte more than the longest good line is enough of it: it is bad then, whatever
+// follows.
+pub fn keep(block: &mut [u8], from: usize, n: usize) -> usize
+    requires { ⌜ (from ≤ n) × (n ≤ length (now block)) ⌝ }
+    ensures few { λ r. ⌜ r ≤ suc longest ⌝ }
+    ensures kept { λ r. ⌜ Wrote (cut (drop from (take n (now (block .entry))))) r (now (block .entry)) (now (block .exit)) ⌝ }
+{
+    keep_most(block, from, n, Read::LONGEST + 1)
 }
 
 // The end of the input ends its last line, which may lack its line feed: it gets one.

@@ -12,7 +12,7 @@ use lib.ListN.{length, take, getD, set, length-append, length-set}
 use lib.Seq.{take-suc, length-take-le, set-split}
 use borrow.Author.Tests.{lt-ltb, le-ltb, le-leb, lt-leb}
 use Rattle.output.specs.Writing.{over, Wrote}
-use Rattle.output.proofs.Writing.{over-more}
+use Rattle.output.proofs.Writing.{over-more, stored-after}
 use Rattle.text.specs.Line.{tab, hex-digit, hex}
 use Rattle.text.specs.Output.{text, figure, decimal, hex-figure, hex-bytes, shown, output-line, line-room}
 use Rattle.text.proofs.Counting.{decimal-most}
@@ -125,9 +125,4 @@ line-length number answer bytes = simp length-append (omega arith)
 -- a line feed after what was written
 pub line-end : (number answer n : ℕ) (bytes l X : List ℕ) → Wrote ((decimal number ++ (tab ∷ figure answer ∷ tab ∷ [])) ++ shown bytes) n l X → n + 1 ≤ length l → Wrote (output-line number answer bytes) (n + 1) l (set X n (code "\n"))
 unfolding output-line
-line-end number answer n bytes l X w h =
-    let front = (decimal number ++ (tab ∷ figure answer ∷ tab ∷ [])) ++ shown bytes in
-    record {
-      count = (let c = w .count in let k = length-append front (text "\n") in omega arith);
-      buffer = (λ i. set (w .buffer i) (w .count i) (code "\n")) ∙ over-more (text "\n") front l (omega (arith, w .count));
-    }
+line-end number answer n bytes l X w h = stored-after (code "\n") w h

@@ -1,7 +1,8 @@
 // Plays sessions with buffers of any length. A line `=`, a tab and a number begins a session from power-up in which that many bytes
 // are lent with every input; it is printed as it stands. A line `?`, a tab and a word asks for something that no input tells, and
-// changes nothing: `queue` for the bytes that wait, `lamp` for how many keys are held. For any other line its number in the session, the
-// answer and the bytes are printed, as the text program prints them.
+// changes nothing: `queue` for the bytes that wait, `lamp` for how many keys are held, `save` for the saved line, into the lent buffer. After
+// `?`, a tab, `load`, a tab and bytes in hexadecimal the session goes on from the state that these bytes are the saved line of. For every line
+// its number in the session, the answer and the bytes are printed, as the text program prints them.
 ghost use mathlib.Core.Path.{_≡_};
 ghost use Prim.Native.Nat.{_+_, _≤_, _<_, _^_};
 ghost use lib.ListN.{length};
@@ -12,6 +13,15 @@ use controller::State;
 
 // How many blocks are read at most: more than any input has, and few enough that a line's number has 64 bits.
 const MOST_BLOCKS: u64 = 140_737_488_355_328;
+
+// The most bytes of a line of `load`.
+const MOST_LINE: usize = 16_384;
+
+// How much is kept of a line that lies across two blocks: with one byte more it is bad, whatever follows.
+const MOST_KEPT: usize = MOST_LINE + 1;
+
+// How many bytes stand before the hexadecimal digits of a line of `load`.
+const LOAD: usize = 7;
 
 // A session between two lines: the state, the number of the next line, and how many bytes are lent with each input.
 pub struct Session {
@@ -154,6 +164,124 @@ fn answer_question(question: Question, state: State, number: u64, out: &mut [u8]
     }
 }
 
+// Whether a line begins with these bytes.
+fn begins(line: &[u8], with: &[u8]) -> bool {
+    let n = with.len();
+    if line.len() < n {
+        return false;
+    }
+    let mut i = 0;
+    while i < n {
+        if line[i] != with[i] {
+            return false;
+        }
+        i += 1;
+    }
+    true
+}
+
+// Whether a line has bytes in hexadecimal from `from` on, two upper-case digits each, or a minus for none.
+fn has_bytes(line: &[u8], from: usize) -> bool {
+    let n = line.len();
+    if n <= from {
+        return false;
+    }
+    if n - from == 1 {
+        return line[from] == b'-';
+    }
+    if (n - from) % 2 != 0 {
+        return false;
+    }
+    let mut i = from;
+    while i < n {
+        if 15 < text::hex_digit(line[i]) {
+            return false;
+        }
+        i += 1;
+    }
+    true
+}
+
+// Whether a line is `?`, a tab, `load`, a tab and bytes.
+fn loads(line: &[u8]) -> bool {
+    if MOST_LINE < line.len() {
+        return false;
+    }
+    if begins(line, b"?\tload\t") {
+        return has_bytes(line, LOAD);
+    }
+    false
+}
+
+// The byte of two hexadecimal digits.
+fn byte_of(a: u8, b: u8) -> u8 {
+    ((16 * text::hex_digit(a) as u16 + text::hex_digit(b) as u16) % 256) as u8
+}
+
+// The bytes of such a line, as many as there is room for: how many.
+fn bytes_in(line: &[u8], out: &mut [u8]) -> usize
+    ensures { λ r. ⌜ r ≤ length (now (out .entry)) ⌝ }
+{
+    let mut at = LOAD;
+    let mut count = 0;
+    while count < out.len() {
+        if line.len() < at + 2 {
+            return count;
+        }
+        out[count] = byte_of(line[at], line[at + 1]);
+        at += 2;
+        count += 1;
+    }
+    count
+}
+
+// The saved line, into as much of the buffer as is lent.
+fn save(session: Session, lent: &mut [u8], out: &mut [u8]) -> Printed
+    requires { ⌜ IsState (session .state) ⌝ }
+    requires { ⌜ session .number + 1 < 2 ^ 64 ⌝ }
+    requires { ⌜ line-room (length (now lent)) ≤ length (now out) ⌝ }
+    ensures { λ r. ⌜ IsState (r .session .state) ⌝ }
+    ensures { λ r. ⌜ r .session .number ≤ session .number + 1 ⌝ }
+    ensures { λ r. ⌜ r .count ≤ length (now (out .entry)) ⌝ }
+{
+    let state = session.state;
+    let room = smaller(session.lent, lent.len());
+    let done = saved::write(state, &mut lent[..room]);
+    let answer = done.answer;
+    let count = text::write_line(session.number, answer.number(), lent, done.count, out);
+    Printed {
+        session: Session {
+            state: state,
+            number: session.number + 1,
+            lent: session.lent,
+        },
+        count: count,
+    }
+}
+
+// The session goes on from the state that the bytes in a line are the saved line of, or from power-up.
+fn load(session: Session, line: &[u8], lent: &mut [u8], out: &mut [u8]) -> Printed
+    requires { ⌜ session .number + 1 < 2 ^ 64 ⌝ }
+    requires { ⌜ line-room (length (now lent)) ≤ length (now out) ⌝ }
+    ensures { λ r. ⌜ IsState (r .session .state) ⌝ }
+    ensures { λ r. ⌜ r .session .number ≤ session .number + 1 ⌝ }
+    ensures { λ r. ⌜ r .count ≤ length (now (out .entry)) ⌝ }
+{
+    let n = bytes_in(line, lent);
+    let loaded = saved::read(&lent[..n]);
+    let answer = loaded.answer;
+    let state = loaded.state;
+    let count = text::write_line(session.number, answer.number(), lent, 0, out);
+    Printed {
+        session: Session {
+            state: state,
+            number: session.number + 1,
+            lent: session.lent,
+        },
+        count: count,
+    }
+}
+
 fn smaller(a: usize, b: usize) -> usize
     ensures { λ r. ⌜ r ≤ b ⌝ }
 {
@@ -193,6 +321,12 @@ fn print(session: Session, text: &[u8], n: usize, lent: &mut [u8], out: &mut [u8
             },
             count: count,
         };
+    }
+    if asks(line, b"save") {
+        return save(session, lent, out);
+    }
+    if loads(line) {
+        return load(session, line, lent, out);
     }
     let room = smaller(session.lent, lent.len());
     let played = session::play(before, session.number, text, &mut lent[..room], out);
@@ -276,7 +410,7 @@ fn run(block: &mut [u8], lent: &mut [u8], out: &mut [u8])
             return;
         }
         session = done.session;
-        kept = session::keep(block, done.used, n);
+        kept = session::keep_most(block, done.used, n, MOST_KEPT);
         blocks -= 1;
     }
 }

@@ -44,7 +44,7 @@ impl Clock {
             && advance(&mut self.year, 0, 99); // "99 goes to 00."
     }
 
-    fn last_day(&self, rules: &Rules) -> u8 {
+    pub fn last_day(&self, rules: &Rules) -> u8 {
         match self.month {
             4 | 6 | 9 | 11 => 30,
             2 if self.year.is_multiple_of(4) => rules.leap_day,

@@ -1,16 +1,19 @@
 //! What a session visits, counted with the model.
 
+use std::collections::BTreeMap;
 use std::fmt;
 
 use crate::controller::Input;
-use crate::coverage::keys::{KeyCoverage, Line};
+use crate::coverage::keys::KeyCoverage;
+use crate::coverage::saved::SavedCoverage;
 use crate::limits::BUFFER;
 use crate::program::{session_head, Format, Player};
 use crate::rules::Rules;
 use crate::state::{JoystickMode, MouseMode, Role, State};
-use crate::text::parse;
+use crate::text::{parse, BAD_LINE};
 
 pub mod keys;
+pub mod saved;
 
 const MOUSE_MODES: [&str; 3] = ["relative", "absolute", "keycode"];
 const JOYSTICK_MODES: [&str; 5] = ["event", "interrogation", "monitoring", "fire", "keycode"];
@@ -25,6 +28,33 @@ const KINDS: [&str; 9] = [
     "bad line",
     "question",
 ];
+
+/// One line, and what it met.
+pub struct Line<'a> {
+    pub text: &'a [u8],
+    pub input: Option<Input>,
+    pub before: &'a State,
+    pub after: &'a State,
+    pub lent: usize,
+    pub answer: usize,
+    /// How many bytes it wrote, or told.
+    pub written: usize,
+}
+
+impl Line<'_> {
+    pub fn taken(&self) -> bool {
+        self.answer == 0
+    }
+}
+
+/// How often each thing was met, by what it is in plain words.
+pub type Counts = BTreeMap<&'static str, u64>;
+
+fn add(counts: &mut Counts, met: &[(&'static str, bool)]) {
+    for &(what, met) in met {
+        *counts.entry(what).or_default() += u64::from(met);
+    }
+}
 
 pub struct Coverage {
     /// By answer number.
@@ -42,6 +72,7 @@ pub struct Coverage {
     /// The most bytes that a line wrote.
     pub longest: usize,
     pub keys: KeyCoverage,
+    pub saved: SavedCoverage,
 }
 
 impl Coverage {
@@ -55,6 +86,7 @@ impl Coverage {
             resumes: [0; 256],
             longest: 0,
             keys: KeyCoverage::default(),
+            saved: SavedCoverage::default(),
         };
         let mut player = Player::new(format, Rules::DOCUMENT, BUFFER);
         for line in session.split_inclusive(|&byte| byte == b'\n') {
@@ -82,14 +114,17 @@ impl Coverage {
         if let (Some(Input::Host(byte)), 0) = (input, answer) {
             self.count_command(&before, &player.state, byte);
         }
-        self.keys.count(&Line {
+        let line = Line {
             text: line,
             input,
             before: &before,
             after: &player.state,
             lent: player.lent,
             answer,
-        });
+            written: player.written(),
+        };
+        self.keys.count(&line);
+        self.saved.count(&line);
     }
 
     fn count_command(&mut self, before: &State, after: &State, byte: u8) {
@@ -105,6 +140,7 @@ impl Coverage {
     }
 }
 
+/// The places of both modes in document 01's list.
 fn mode_numbers(state: &State) -> (usize, usize) {
     let mouse = match state.mouse.mode {
         MouseMode::Relative => 0,
@@ -130,7 +166,7 @@ fn kind_number(input: Option<Input>, answer: usize) -> usize {
         Some(Input::Stick { .. }) => 4,
         Some(Input::Sample(_)) => 5,
         Some(Input::Tick) => 6,
-        None if answer > 0 => 7,
+        None if answer == usize::from(BAD_LINE) => 7,
         None => 8,
     }
 }
@@ -166,13 +202,13 @@ impl fmt::Display for Coverage {
                 )?;
             }
         }
-        write!(f, "{}", self.keys)
+        write!(f, "{}{}", self.keys, self.saved)
     }
 }
 
-/// The counts of the answers that there are: 0 to 4 and 9.
+/// The counts of the answers that there are: 0 to 5 and 9.
 pub fn answer_counts(answers: &[u64; 10]) -> String {
-    [0, 1, 2, 3, 4, 9]
+    [0, 1, 2, 3, 4, 5, 9]
         .map(|number| format!("{number}: {}", answers[number]))
         .join(", ")
 }

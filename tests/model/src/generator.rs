@@ -4,27 +4,43 @@
 //! such as a pause with events and a command that resumes; the weights see to
 //! it that a long session visits every mode and meets every answer.
 
+use std::collections::BTreeMap;
+
 use crate::limits::{BUFFER, HELD_LIMIT, QUEUE_ROOM};
 use crate::program::Format;
 use crate::random::Random;
+use crate::spoil::Kind;
 
+mod saved_states;
 mod stuck_keys;
 
 /// A session of `lines` lines; in the format of vectors, many short ones.
 pub fn session(seed: u64, lines: usize, format: Format) -> Vec<u8> {
+    session_and_kinds(seed, lines, format).0
+}
+
+/// The same, and how often lines of each kind of spoiling are loaded in it.
+pub fn session_and_kinds(
+    seed: u64,
+    lines: usize,
+    format: Format,
+) -> (Vec<u8>, BTreeMap<Kind, u64>) {
     let mut generator = Generator {
         random: Random::new(seed),
         format,
         text: Vec::new(),
         left: lines,
+        kinds: BTreeMap::new(),
     };
     while generator.left > 0 {
         match format {
             Format::Text => generator.scene(),
+            Format::Vectors if generator.random.one_in(4) => generator.saving_session(),
             Format::Vectors => generator.short_session(),
         }
     }
-    generator.finish()
+    let kinds = std::mem::take(&mut generator.kinds);
+    (generator.finish(), kinds)
 }
 
 type Scene = fn(&mut Generator);
@@ -291,6 +307,7 @@ struct Generator {
     format: Format,
     text: Vec<u8>,
     left: usize,
+    kinds: BTreeMap<Kind, u64>,
 }
 
 impl Generator {

@@ -4,7 +4,9 @@ use crate::rules::Rules;
 use crate::state::{acting, arrow, JoystickMode, Role, Velocity, X, Y};
 
 /// "both stop at 2,551"
-const LONGEST: u16 = 2551;
+pub const LONGEST_COUNT: u16 = 2551;
+/// "samples (0 to 7 of them)"
+pub const MOST_SAMPLES: u8 = 7;
 const TRIGGER: u8 = 0x80;
 
 #[derive(Clone, Copy, Debug, PartialEq, Eq)]
@@ -157,8 +159,8 @@ impl Joysticks {
         if direction == 0 {
             return;
         }
-        self.age[axis] = (self.age[axis] + 1).min(LONGEST);
-        self.wait[axis] = (self.wait[axis] + 1).min(LONGEST);
+        self.age[axis] = (self.age[axis] + 1).min(LONGEST_COUNT);
+        self.wait[axis] = (self.wait[axis] + 1).min(LONGEST_COUNT);
         let interval = velocity.interval(axis, self.age[axis]);
         if interval != 0 && self.wait[axis] >= interval {
             self.wait[axis] = 0;
@@ -174,7 +176,7 @@ impl Joysticks {
         }
         self.samples = 2 * self.samples + bit;
         self.sample_count += 1;
-        if self.sample_count == 8 {
+        if self.sample_count > MOST_SAMPLES {
             out.push(self.samples);
             self.samples = 0;
             self.sample_count = 0;
@@ -183,6 +185,13 @@ impl Joysticks {
 }
 
 impl Velocity {
+    /// Where no mode has any.
+    pub const NONE: Velocity = Velocity {
+        breakpoint: [0, 0],
+        before: [0, 0],
+        after: [0, 0],
+    };
+
     /// "The interval is 10·T while R is not 0 and age is at most 10·R, else
     /// 10·V"
     fn interval(&self, axis: usize, age: u16) -> u16 {

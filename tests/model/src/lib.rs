@@ -1,16 +1,22 @@
 //! A model of the keyboard controller, written from the papers: document 01,
-//! request A1 of document 02, the protocol's text and the readings of them.
+//! requests A1 and A2 of document 02, the protocol's text and the readings of
+//! them.
 //!
 //! `controller::step` takes one input in a state; `text` reads and writes the
-//! lines of the text program. The rest serves the comparison with another
-//! program: sessions made at random, those that the papers state, those for
-//! sentences of the papers, and questions about the state. `ledger` stands
-//! apart: it adds up motion and packets, and uses nothing of the controller.
+//! lines of the text program, `saved` a state as a line. The rest serves the
+//! comparison with another program: sessions made at random, those that the
+//! papers state, those for sentences of the papers, questions about the state,
+//! saved lines of arbitrary states and spoiled ones, and sessions that are cut in
+//! two. `ledger` stands apart: it adds up motion and packets, and uses nothing of
+//! the controller.
 
+pub mod arbitrary;
 pub mod clock;
 pub mod command;
 pub mod controller;
 pub mod coverage;
+pub mod crosscheck;
+pub mod cuts;
 pub mod generator;
 pub mod joysticks;
 pub mod keys;
@@ -23,6 +29,9 @@ pub mod program;
 pub mod question;
 pub mod random;
 pub mod rules;
+pub mod saved;
+pub mod spoil;
 pub mod state;
 pub mod text;
 pub mod vectors;
+pub mod wire;

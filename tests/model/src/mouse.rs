@@ -4,7 +4,7 @@ use crate::rules::{Rules, Sending};
 use crate::state::{acting, arrow, MouseMode, X, Y};
 
 /// The button action that makes keys of the buttons.
-const KEYS: u8 = 4;
+pub const KEYS: u8 = 4;
 
 #[derive(Clone, Copy, Debug, PartialEq, Eq)]
 pub enum Button {

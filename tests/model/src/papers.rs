@@ -1,19 +1,28 @@
 //! The sessions that the papers state, with the outputs that they state; and
-//! sessions for sentences of document 01, for questions and for the map of
-//! keys, with outputs worked out by hand.
+//! sessions for sentences of document 01, for questions, for the map of keys and
+//! for saved lines, with outputs worked out by hand.
 //!
 //! Sessions are written on one line: `;` parts lines, a space stands for a tab,
 //! bare hex bytes are B lines, `*n` repeats what stands before it. Nothing
 //! after the last `;` is no line. Outputs are `line:bytes` for the lines that
 //! wrote any and `line:(n)` for an answer n that is not 0; `1E*n+1F` is a byte n
-//! times and then another. `{room}` is the queue's room, `{room+2}` two more.
+//! times and then another. `{room}` is the queue's room, `{room+2}` two more;
+//! `{shortest}` and `{longest}` are lengths of saved lines.
+//! In both, a saved line stands as edits of power-up's (`edits`).
 
 use crate::limits::{BUFFER, QUEUE_ROOM};
+use crate::saved::{LONGEST, SHORTEST};
+use crate::text::push_hex;
+
+mod edits;
+
+pub use edits::edited;
 
 const PAPERS: &str = include_str!("papers.txt");
 const SENTENCES: &str = include_str!("sentences.txt");
 const QUESTIONS: &str = include_str!("questions.txt");
 const KEYS: &str = include_str!("keys.txt");
+const SAVED: &str = include_str!("saved.txt");
 
 /// A session and what each of its lines gives.
 #[derive(Clone, Debug, PartialEq, Eq)]
@@ -79,25 +88,41 @@ pub fn keys() -> Vec<Paper> {
     table(KEYS)
 }
 
+/// Every session for request A2: first those of the readings.
+pub fn saved() -> Vec<Paper> {
+    table(SAVED)
+}
+
 fn table(text: &str) -> Vec<Paper> {
-    with_room(text).split("\n\n").map(paper).collect()
+    with_lengths(text).split("\n\n").map(paper).collect()
 }
 
 /// The text with numbers in place of `{room}`, `{room+2}` and `{room-2}`.
-fn with_room(text: &str) -> String {
+fn with_lengths(text: &str) -> String {
     let mut parts = text.split('{');
     let mut whole = parts.next().unwrap_or_default().to_string();
     for part in parts {
         let (name, rest) = part.split_once('}').expect("a brace that closes");
-        let more = name.strip_prefix("room").expect("the queue's room");
-        let more: isize = match more {
-            "" => 0,
-            more => more.parse().expect("a number with its sign"),
-        };
-        whole += &QUEUE_ROOM.saturating_add_signed(more).to_string();
+        whole += &length(name).to_string();
         whole += rest;
     }
     whole
+}
+
+/// What a name stands for, with a number after it added or taken off.
+fn length(name: &str) -> usize {
+    let sign = name.find(['+', '-']).unwrap_or(name.len());
+    let (name, more) = name.split_at(sign);
+    let length = match name {
+        "room" => QUEUE_ROOM,
+        "shortest" => SHORTEST,
+        "longest" => LONGEST,
+        _ => panic!("no such length: {name}"),
+    };
+    match more {
+        "" => length,
+        more => length.saturating_add_signed(more.parse().expect("a number with its sign")),
+    }
 }
 
 /// A title, perhaps a buffer's length, a session and an output, a line each.
@@ -135,9 +160,21 @@ fn item_lines(item: &str) -> Vec<String> {
     let once: Vec<String> = if item.split(' ').all(is_hex_byte) {
         item.split(' ').map(|byte| format!("B\t{byte}")).collect()
     } else {
-        vec![item.replace(' ', "\t").replace("\\r", "\r")]
+        vec![with_saved(&item.replace(' ', "\t")).replace("\\r", "\r")]
     };
     vec![once; times].concat()
+}
+
+/// The text with the hex of a saved line in place of edits in brackets.
+fn with_saved(text: &str) -> String {
+    let Some((before, edits)) = text.split_once('[') else {
+        return text.into();
+    };
+    let (edits, after) = edits.split_once(']').expect("a bracket that closes");
+    let mut hex = Vec::new();
+    push_hex(&edited(edits), &mut hex);
+    let hex = String::from_utf8(hex).expect("digits");
+    [before, &hex, after].concat()
 }
 
 fn is_hex_byte(word: &str) -> bool {
@@ -168,6 +205,10 @@ fn given_output(given: &str) -> Output {
         Some(answer) => Output {
             answer: answer.parse().expect("an answer"),
             bytes: String::from("-"),
+        },
+        None if given.starts_with('[') => Output {
+            answer: 0,
+            bytes: with_saved(given),
         },
         None => Output {
             answer: 0,

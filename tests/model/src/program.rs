@@ -1,15 +1,16 @@
-//! Playing lines: the text program, and sessions with a buffer of their own.
+//! Playing lines: the text program, sessions with a buffer of their own, and a
+//! session from a saved line to another.
 
-use std::io::{self, BufRead, Read, Write};
+use std::io::{self, Read, Write};
 
 use crate::controller::{answer_number, step};
-use crate::limits::BUFFER;
-use crate::question::tell;
+use crate::limits::{BUFFER, LONGEST_QUESTION};
+use crate::question::{answer, read_into};
 use crate::rules::Rules;
+use crate::saved;
 use crate::state::State;
 use crate::text::{parse, push_line, BAD_LINE, HEADER, LONGEST_LINE};
-
-const BLOCK: usize = 1 << 18;
+use crate::wire::{Line, Wire};
 
 /// The lines of one program run.
 #[derive(Clone, Copy, Debug, PartialEq, Eq)]
@@ -18,6 +19,17 @@ pub enum Format {
     Text,
     /// Sessions, each headed by a line `=` TAB LENGTH, with questions.
     Vectors,
+}
+
+impl Format {
+    /// How many bytes of a line are worth keeping: a longer line is bad whatever
+    /// it holds.
+    fn longest_line(self) -> usize {
+        match self {
+            Format::Text => LONGEST_LINE,
+            Format::Vectors => LONGEST_QUESTION + 1,
+        }
+    }
 }
 
 /// Plays one session, line by line.
@@ -58,16 +70,18 @@ impl Player {
         self.bytes.clear();
         let answer = match parse(line) {
             Some(input) => answer_number(step(&mut self.state, input, self.lent, &mut self.bytes)),
-            None if self.answers(line) => 0,
-            None => BAD_LINE,
+            None => self.asked(line).unwrap_or(BAD_LINE),
         };
         push_line(self.number, answer, &self.bytes, out);
         answer
     }
 
-    /// Answers a question; false if `line` is none.
-    fn answers(&mut self, line: &[u8]) -> bool {
-        self.format == Format::Vectors && tell(line, &self.state, &mut self.bytes)
+    /// Answers a question; none if `line` is none.
+    fn asked(&mut self, line: &[u8]) -> Option<u8> {
+        match self.format {
+            Format::Text => None,
+            Format::Vectors => answer(line, &mut self.state, self.lent, &mut self.bytes),
+        }
     }
 }
 
@@ -81,57 +95,60 @@ pub fn session_head(line: &[u8]) -> Option<usize> {
 }
 
 /// Plays every line of `input`.
-/// A read that fails ends the input there.
 pub fn run(input: &mut dyn Read, output: &mut dyn Write, format: Format) -> io::Result<()> {
-    let mut reader = io::BufReader::with_capacity(BLOCK, input);
+    let mut wire = Wire::new(input, output);
     let mut player = Player::new(format, Rules::from_environment(), BUFFER);
-    let mut line = Vec::with_capacity(LONGEST_LINE);
-    let mut out = Vec::with_capacity(2 * BLOCK);
     if format == Format::Text {
-        out.extend_from_slice(HEADER);
+        wire.out.extend_from_slice(HEADER);
     }
-    while next_line(&mut reader, &mut line) {
-        match session_head(&line) {
-            Some(lent) if format == Format::Vectors => {
-                player.restart(lent);
-                out.extend_from_slice(&line);
-                out.push(b'\n');
-            }
-            _ => {
-                player.play(&line, &mut out);
-            }
-        }
-        if out.len() >= BLOCK {
-            output.write_all(&out)?;
-            out.clear();
-        }
-    }
-    output.write_all(&out)?;
-    output.flush()
+    play_all(&mut player, &mut wire)?;
+    wire.send()
 }
 
-/// Reads a line without its line feed, and keeps its first bytes; false at the
-/// end. "the last may lack it": a line without line feed has at least a byte.
-fn next_line(reader: &mut impl BufRead, line: &mut Vec<u8>) -> bool {
-    line.clear();
-    let mut some = false;
-    loop {
-        let block = match reader.fill_buf() {
-            Ok(block) => block,
-            Err(error) if error.kind() == io::ErrorKind::Interrupted => continue,
-            Err(_) => return some,
-        };
-        if block.is_empty() {
-            return some;
-        }
-        some = true;
-        let end = block.iter().position(|&byte| byte == b'\n');
-        let length = end.unwrap_or(block.len());
-        let kept = length.min(LONGEST_LINE - line.len());
-        line.extend_from_slice(&block[..kept]);
-        reader.consume(length + usize::from(end.is_some()));
-        if end.is_some() {
-            return true;
+/// Plays a session from a saved line on, and writes the saved line of its end.
+///
+/// The first line is the saved line, or `-` for power-up; the rest is a session
+/// as the text program reads it. Before its answers stands line 0, the answer to
+/// the first line.
+pub fn resume(input: &mut dyn Read, output: &mut dyn Write) -> io::Result<()> {
+    let mut wire = Wire::new(input, output);
+    let mut player = Player::new(Format::Text, Rules::from_environment(), BUFFER);
+    let answer = read_first_line(&mut player.state, &mut wire)?;
+    wire.out.extend_from_slice(HEADER);
+    push_line(0, answer, &[], &mut wire.out);
+    play_all(&mut player, &mut wire)?;
+    saved::write(&player.state, &mut wire.out);
+    wire.send()
+}
+
+/// The line as it stands, with its line feed if it has one. What is longer than
+/// any saved line is cut where it is still longer.
+fn read_first_line(state: &mut State, wire: &mut Wire) -> io::Result<u8> {
+    let mut first = Vec::with_capacity(saved::LONGEST + 1);
+    let ended = wire.next_line(&mut first, saved::LONGEST)?;
+    if first == b"-" {
+        return Ok(0);
+    }
+    if ended == Line::Whole {
+        first.push(b'\n');
+    }
+    Ok(read_into(&first, state))
+}
+
+fn play_all(player: &mut Player, wire: &mut Wire) -> io::Result<()> {
+    let longest = player.format.longest_line();
+    let mut line = Vec::with_capacity(longest);
+    while wire.next_line(&mut line, longest)? != Line::None {
+        match session_head(&line) {
+            Some(lent) if player.format == Format::Vectors => {
+                player.restart(lent);
+                wire.out.extend_from_slice(&line);
+                wire.out.push(b'\n');
+            }
+            _ => {
+                player.play(&line, &mut wire.out);
+            }
         }
     }
+    Ok(())
 }

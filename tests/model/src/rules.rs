@@ -1,11 +1,15 @@
 //! What a deliberately wrong variant changes: numbers of document 01, what
-//! becomes of held motion that is sent, and the map of keys. A comparison that
-//! finds no difference, and a ledger that adds up, are worth something only if
-//! they find these.
+//! becomes of held motion that is sent, the map of keys, and saved lines. A
+//! comparison that finds no difference, and a ledger that adds up, are worth
+//! something only if they find these.
 
 use crate::controller::{Answer, Refusal};
 use crate::keys::{Keys, LAST};
 use crate::limits::{HELD_LIMIT, QUEUE_ROOM};
+
+mod saved;
+
+pub use saved::SavedFault;
 
 /// What becomes of held motion that a button or a resume sends.
 #[derive(Clone, Copy, Debug, PartialEq, Eq)]
@@ -64,6 +68,8 @@ pub struct Rules {
     pub at_resume: Sending,
     /// What is wrong with the map of keys, if anything is.
     pub key_fault: Option<KeyFault>,
+    /// What is wrong with saved lines, if anything is.
+    pub saved_fault: Option<SavedFault>,
 }
 
 impl Rules {
@@ -77,6 +83,7 @@ impl Rules {
         at_button: Sending::Once,
         at_resume: Sending::Once,
         key_fault: None,
+        saved_fault: None,
     };
 
     /// Variant `number`, wrong in one place; any other number is the documents.
@@ -92,7 +99,8 @@ impl Rules {
             7 => rules.at_resume = Sending::AndKept,
             8 => rules.at_button = Sending::Dropped,
             9 => rules.at_resume = Sending::FirstPacket,
-            _ => rules.key_fault = wrong_with_keys(number),
+            10..=19 => rules.key_fault = wrong_with_keys(number),
+            _ => rules.saved_fault = saved::wrong_with_saved_lines(number),
         }
         rules
     }

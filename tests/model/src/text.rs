@@ -47,7 +47,7 @@ pub fn parse(line: &[u8]) -> Option<Input> {
 }
 
 /// "Hex is two upper-case digits"
-fn hex(field: &[u8]) -> Option<u8> {
+pub fn hex(field: &[u8]) -> Option<u8> {
     let [high, low] = field else { return None };
     Some(16 * hex_digit(*high)? + hex_digit(*low)?)
 }
@@ -95,7 +95,9 @@ pub fn push_line(number: u64, answer: u8, bytes: &[u8], out: &mut Vec<u8>) {
     out.push(b'\n');
 }
 
-fn push_decimal(mut number: u64, out: &mut Vec<u8>) {
+/// Adds a number without leading zeros.
+#[inline(always)]
+pub fn push_decimal(mut number: u64, out: &mut Vec<u8>) {
     let mut digits = [0; 20];
     let mut start = digits.len();
     loop {

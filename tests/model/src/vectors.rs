@@ -1,10 +1,10 @@
 //! Sessions with the length of their buffer, and their expected outputs: those
 //! of the papers, resumes with every length of buffer, bad input in every mode,
-//! sentences of document 01, questions, and the map of keys.
+//! sentences of document 01, questions, the map of keys, and saved lines.
 
 use crate::keys::{CODES, COUNT};
 use crate::limits::{BUFFER, HELD_LIMIT, QUEUE_ROOM};
-use crate::papers::{keys, lines, papers, questions, sentences, Paper};
+use crate::papers::{keys, lines, papers, questions, saved, sentences, Paper};
 use crate::program::{Format, Player};
 use crate::rules::Rules;
 
@@ -69,6 +69,13 @@ and 01 comes again: where the reset waits for it, 114 bytes are due. The same \
 with key 01: 113 bytes. Then a whole 80 01, but to a reset that still waits its \
 80 is another byte. Last, 92 tells whether the mouse is on again.";
 
+const SAVED: &str = "\
+Request A2, a saved state as text: first the readings, of which the papers state \
+84 to 87 and what 64 to 67 show of a line; then its sentences and its refusals. \
+Every other output line is worked out by hand. In tests/model/src/saved.txt each \
+line that is loaded or saved stands as an edit of power-up's: [23=1,57=1E] is \
+power-up's line with field 23 as 1 and field 57 as 1E.";
+
 /// All sessions.
 pub fn groups() -> Vec<Group> {
     vec![
@@ -89,6 +96,7 @@ pub fn groups() -> Vec<Group> {
             ALL_KEYS,
             (COUNT - 2..=COUNT + 2).map(all_keys_down).collect(),
         ),
+        group(SAVED, saved()),
     ]
 }
 

@@ -2,11 +2,13 @@
 //! the same seed, visit everything, and show that the wrong variants are wrong.
 
 use model::coverage::Coverage;
-use model::generator::session;
+use model::generator::{session, session_and_kinds};
 use model::keys::COUNT;
 use model::limits::{BUFFER, QUEUE_ROOM};
 use model::program::{session_head, Format, Player};
 use model::rules::Rules;
+use model::saved::{LONGEST, SHORTEST};
+use model::spoil::KINDS;
 use model::text::BAD_LINE;
 
 fn played(session: &[u8], rules: Rules) -> Vec<u8> {
@@ -55,7 +57,11 @@ fn a_session_has_as_many_lines_as_asked() {
 fn the_buffers_of_the_short_sessions() {
     // The seeds and lines of tests/run, which names these lengths.
     let heads: Vec<usize> = (1..=60).flat_map(heads_of).collect();
-    for length in (0..=COUNT + 2).chain([BUFFER - 1, BUFFER]) {
+    let about_lines = [SHORTEST - 1, SHORTEST, LONGEST - 1, LONGEST];
+    for length in (0..=COUNT + 2)
+        .chain([BUFFER - 1, BUFFER])
+        .chain(about_lines)
+    {
         assert!(heads.contains(&length), "no buffer of {length}");
     }
     let short = heads.iter().filter(|&&length| length <= 20).count();
@@ -103,6 +109,27 @@ fn keys_and_resets_meet_in_every_way() {
     }
 }
 
+/// Good lines are loaded in each mouse mode with each joystick mode, spoiled ones
+/// of each kind; and lines are saved with room for just the line, and for less.
+#[test]
+fn saved_lines_meet_in_every_way() {
+    let (text, kinds) = session_and_kinds(1, 300_000, Format::Vectors);
+    let saved = Coverage::of(&text, Format::Vectors).saved;
+    assert_eq!(saved.met.len(), 12 + 8 + 3);
+    for (what, &count) in &saved.met {
+        assert!(count > 10, "{what}: {count}");
+    }
+    assert!(saved.pairs.as_flattened().iter().all(|&loads| loads > 40));
+    for (kind, words) in KINDS {
+        let count = kinds.get(&kind).copied().unwrap_or(0);
+        assert!(count > 10, "{words}: {count}");
+    }
+    // The text program has none of it.
+    let (text, kinds) = session_and_kinds(1, 100_000, Format::Text);
+    let saved = Coverage::of(&text, Format::Text).saved;
+    assert!(saved.met.is_empty() && kinds.is_empty());
+}
+
 /// Most are asked while paused, many of a queue that holds something or is
 /// full, after a refusal, or within a command.
 #[test]
@@ -135,8 +162,12 @@ fn questions_are_asked_where_they_show_something() {
         } else if line == b"?\tlamp" {
             assert_eq!((answer, player.written()), (0, 1));
             assert_eq!(player.state, before);
-        } else if line.starts_with(b"?") {
+        } else if line == b"?\tsave" {
+            assert!(answer == 0 || (answer == 4 && player.written() == 0));
+            assert_eq!(player.state, before);
+        } else if line.starts_with(b"?") && !matches!(answer, 0 | 5) {
             assert_eq!(answer, BAD_LINE);
+            assert_eq!(player.state, before);
             bad += 1;
         }
         last = answer;
@@ -151,24 +182,24 @@ fn the_wrong_variants_are_seen() {
     let text = session(1, 100_000, Format::Text);
     let right = played(&text, Rules::DOCUMENT);
     for number in 1..=15 {
-        assert_ne!(played(&text, Rules::wrong(number)), right, "{number}");
+        assert!(played(&text, Rules::wrong(number)) != right, "{number}");
     }
-    for number in [0, 16, 17, 18, 19, 20] {
-        assert_eq!(played(&text, Rules::wrong(number)), right, "{number}");
+    for number in (16..=36).chain([0]) {
+        assert!(played(&text, Rules::wrong(number)) == right, "{number}");
     }
 }
 
-/// Those that only short buffers and the lamp show.
+/// Those that only short buffers, the lamp and saved lines show. A day too many
+/// in a month and a memory load without data are for `saved_lines`.
 #[test]
 fn the_wrong_variants_of_the_vectors_are_seen() {
-    let text = session(1, 100_000, Format::Vectors);
+    let text = session(1, 200_000, Format::Vectors);
     let right = played_vectors(&text, Rules::DOCUMENT);
-    for number in 10..=19 {
-        assert_ne!(
-            played_vectors(&text, Rules::wrong(number)),
-            right,
+    for number in (10..=35).filter(|number| ![27, 31].contains(number)) {
+        assert!(
+            played_vectors(&text, Rules::wrong(number)) != right,
             "{number}"
         );
     }
-    assert_eq!(played_vectors(&text, Rules::wrong(20)), right);
+    assert!(played_vectors(&text, Rules::wrong(36)) == right);
 }

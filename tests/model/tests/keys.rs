@@ -32,6 +32,10 @@ fn the_map_is_what_the_taken_key_events_make_it() {
             match (parse(line), answer) {
                 (Some(Input::Key { code, down: true }), 0) => drop(down.insert(code)),
                 (Some(Input::Key { code, down: false }), 0) => drop(down.remove(&code)),
+                // A load that is no bad line gives another state.
+                (None, 0 | 5) if line.starts_with(b"?\tload\t") => {
+                    down = player.state.keys.held().collect();
+                }
                 _ => {}
             }
             assert!(player.state.keys.held().eq(down.iter().copied()));

@@ -4,7 +4,7 @@ use model::clock::Clock;
 use model::controller::{answer_number, step, Input};
 use model::joysticks::Joysticks;
 use model::limits::BUFFER;
-use model::papers::{keys, lines, papers, questions, sentences, Paper};
+use model::papers::{keys, lines, papers, questions, saved, sentences, Paper};
 use model::program::{run, Format, Player};
 use model::rules::Rules;
 use model::state::{JoystickMode, Role, State, Velocity};
@@ -20,12 +20,14 @@ fn text_program(input: &str, format: Format) -> String {
 /// Every session of the tables gives its stated output, line by line.
 #[test]
 fn every_session_gives_its_stated_output() {
-    let (papers, sentences, questions, keys) = (papers(), sentences(), questions(), keys());
+    let (papers, sentences, questions) = (papers(), sentences(), questions());
+    let (keys, saved) = (keys(), saved());
     assert_eq!(papers.len(), 17 + 78 + 7);
     assert_eq!(sentences.len(), 20);
     assert_eq!(questions.len(), 12);
     assert_eq!(keys.len(), 4 + 28);
-    let stated = [papers, sentences, questions, keys].concat();
+    assert_eq!(saved.len(), 9 + 52);
+    let stated = [papers, sentences, questions, keys, saved].concat();
     for Paper { title, .. } in stated.iter().filter(|paper| !holds(paper)) {
         eprintln!("not as stated: {title}");
     }

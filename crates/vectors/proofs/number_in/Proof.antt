@@ -1,7 +1,6 @@
 -- `vectors::number_in` meets its contract: nothing overflows.
 -- Assumes nothing.
 use Prim.Native.Nat.{_-_, _≤_}
-use native.Mathlib.Omega.{arith}
 use lib.ListN.{length}
 use borrow.Author.Needs.{needs}
 use Rattle.vectors.proofs.number_in.Statement.{statement}

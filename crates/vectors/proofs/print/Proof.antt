@@ -15,9 +15,7 @@ text-small : (c : tie.After-shared-slice-known) → length (c .before .args .tex
 text-small c = search needs
 
 slice-aggregate-line : tie.Need-slice-aggregate-line
-slice-aggregate-line c =
-    let s = c .before .before .before .before in
-    sym (length-take-le _ _ (omega (arith, s .pre .0)))
+slice-aggregate-line c = sym (length-take-le _ _ (omega (arith, c .before .before .before .before .pre .0)))
 
 is-head-requires : tie.Need-is-head-requires
 is-head-requires c κs = search needs
@@ -36,19 +34,16 @@ number-in-requires c κs = search needs
 power-up-requires : tie.Need-power-up-requires
 power-up-requires c κs = search needs
 
-add-t22 : tie.Need-add-t22
-add-t22 c =
-    let at-shared-slice-known = c .before .before .before .before .before .before .before .before .before .before .before .before in
-    let s = at-shared-slice-known .before in
-    omega (arith, s .pre .0, text-small (at-shared-slice-known))
+add-t23 : tie.Need-add-t23
+add-t23 c =
+    let known = c .before .before .before .before .before .before .before .before .before .before .before .before in
+    omega (arith, known .before .pre .0, text-small known)
 
 same-length : tie.Need-same-length
 same-length c = search needs
 
 returns : tie.Need-returns
-returns c =
-    let at-if2 = c .before .before .before .before .before .before in
-    (c .power-up .ensures .0, (omega (arith, c .power-up .ensures .1), omega (arith, at-if2 .if2 .taken)))
+returns c = (c .power-up .ensures .0, (omega (arith, c .power-up .ensures .1), omega (arith, c .before .before .before .before .before .before .if2 .taken)))
 
 question-in-requires : tie.Need-question-in-requires
 question-in-requires c κs = search needs
@@ -61,10 +56,8 @@ answer-question-requires c κs =
     let s = c .before .before .before .before .before .before .before .before .before .before .before in
     (s .pre .1 .0, omega (arith, s .pre .1 .1 .1))
 
-add-t26 : tie.Need-add-t26
-add-t26 c =
-    let s = c .before .before .before .before .before .before .before .before .before .before .before .before .before .before .before in
-    omega (arith, s .pre .1 .1 .0)
+add-t27 : tie.Need-add-t27
+add-t27 c = omega (arith, c .before .before .before .before .before .before .before .before .before .before .before .before .before .before .before .pre .1 .1 .0)
 
 same-length-2 : tie.Need-same-length-2
 same-length-2 c = search needs
@@ -73,6 +66,43 @@ returns-2 : tie.Need-returns-2
 returns-2 c =
     let s = c .before .before .before .before .before .before .before .before .before .before .before .before .before .before .before in
     (s .pre .1 .0, (omega arith, omega (arith, c .before .before .before .answer-question .ensures, c .before .before .out2 .given)))
+
+slice-aggregate-asks : tie.Need-slice-aggregate-asks
+slice-aggregate-asks c = search needs
+
+asks-requires : tie.Need-asks-requires
+asks-requires c κs = search needs
+
+save-requires : tie.Need-save-requires
+save-requires c κs =
+    let s = c .before .before .before .before .before .before .before .before .before .before .before .before .before .before .before in
+    (s .pre .1 .0, (s .pre .1 .1 .0, s .pre .1 .1 .1 .1))
+
+same-length-3 : tie.Need-same-length-3
+same-length-3 c = search needs
+
+same-length-4 : tie.Need-same-length-4
+same-length-4 c = search needs
+
+returns-3 : tie.Need-returns-3
+returns-3 c = search needs
+
+loads-requires : tie.Need-loads-requires
+loads-requires c κs = search needs
+
+load-requires : tie.Need-load-requires
+load-requires c κs =
+    let s = c .before .before .before .before .before .before .before .before .before .before .before .before .before .before .before .before .before in
+    (s .pre .1 .1 .0, s .pre .1 .1 .1 .1)
+
+same-length-5 : tie.Need-same-length-5
+same-length-5 c = search needs
+
+same-length-6 : tie.Need-same-length-6
+same-length-6 c = search needs
+
+returns-4 : tie.Need-returns-4
+returns-4 c = search needs
 
 smaller-requires : tie.Need-smaller-requires
 smaller-requires c κs = search needs
@@ -85,24 +115,22 @@ slice-aggregate-play c = sym (length-take-le _ _ (c .before .smaller .ensures))
 
 play-requires : tie.Need-play-requires
 play-requires c κs =
-    let s = c .before .before .before .before .before .before .before .before .before .before .before .before .before in
+    let s = c .before .before .before .before .before .before .before .before .before .before .before .before .before .before .before .before .before .before in
     (s .pre .1 .0, (omega (arith, s .pre .0), simp length-take (omega (arith, s .pre .1 .1 .1))))
 
-add-t33 : tie.Need-add-t33
-add-t33 c =
-    let s = c .before .before .before .before .before .before .before .before .before .before .before .before .before .before .before .before .before .before .before .before in
-    omega (arith, s .pre .1 .1 .0)
+add-t46 : tie.Need-add-t46
+add-t46 c = omega (arith, c .before .before .before .before .before .before .before .before .before .before .before .before .before .before .before .before .before .before .before .before .before .before .before .before .before .pre .1 .1 .0)
 
-same-length-3 : tie.Need-same-length-3
-same-length-3 c = search needs
+same-length-7 : tie.Need-same-length-7
+same-length-7 c = search needs
 
-same-length-4 : tie.Need-same-length-4
-same-length-4 c = search needs
+same-length-8 : tie.Need-same-length-8
+same-length-8 c = search needs
 
-returns-3 : tie.Need-returns-3
-returns-3 c =
+returns-5 : tie.Need-returns-5
+returns-5 c =
     let at-play = c .before .before .before .before .before .before in
-    (at-play .play .ensures .1 .1, (omega arith, omega (arith, wrote-within (at-play .play .ensures .0), c .before .before .before .out3 .given)))
+    (at-play .play .ensures .1 .1, (omega arith, omega (arith, wrote-within (at-play .play .ensures .0), c .before .before .before .out5 .given)))
 
 pub print-spec : {M : Type 1} → statement M
 print-spec =
@@ -114,20 +142,31 @@ print-spec =
     slice-write-out
     number-in-requires
     power-up-requires
-    add-t22
+    add-t23
     same-length
     returns
     question-in-requires
     is-asked-requires
     answer-question-requires
-    add-t26
+    add-t27
     same-length-2
     returns-2
+    slice-aggregate-asks
+    asks-requires
+    save-requires
+    same-length-3
+    same-length-4
+    returns-3
+    loads-requires
+    load-requires
+    same-length-5
+    same-length-6
+    returns-4
     smaller-requires
     slice-relend-prefix-play
     slice-aggregate-play
     play-requires
-    add-t33
-    same-length-3
-    same-length-4
-    returns-3)
+    add-t46
+    same-length-7
+    same-length-8
+    returns-5)

@@ -15,7 +15,7 @@ abbrev Inv-loop : tie.InvT-loop
 Inv-loop block₀ lent₀ out₀ session₀ kept₀ blocks₀ block lent out session kept blocks =
     IsState (session .state)
     × (session .number + blocks * 65536 < 2 ^ 64)
-    × (kept ≤ 20)
+    × (kept ≤ 16385)
     × (length block ≡ 65536)
     × (length lent ≡ length lent₀)
     × (length out ≡ length out₀)
@@ -78,8 +78,8 @@ same-length-6 c = c .before .before .before .out2 .given ∙ c .before .before .
 returns-2 : tie.Need-returns-2 Inv-loop μ-loop
 returns-2 c = search needs
 
-keep-requires : tie.Need-keep-requires Inv-loop μ-loop
-keep-requires c κs =
+keep-most-requires : tie.Need-keep-most-requires Inv-loop μ-loop
+keep-most-requires c κs =
     let used = simp length-take at (c .before .before .before .before .before .before .before .before .answer2 .ensures .1 .1) in
     (omega (arith, used), omega (arith, c .before .before .before .before .before .before .before .before .before .before .before .before .before .before .before .read-on .ensures .1, c .before .before .before .before .before .before .before .before .before .before .before .before .before .before .block .given))
 
@@ -94,7 +94,7 @@ loop-again c =
     let i = c .before .before .before .before .before .before .before .before .before .before .before .before .before .before .before .before .before .before .before .before .before .loop .inv in
     let done = c .before .before .before .before .before .before .before .before .before .before .before .answer2 in
     let used = simp length-take at (done .ensures .1 .1) in
-    (done .ensures .0, omega (arith, i .1, i .3, done .ensures .1 .0, used, c .before .before .before .before .before .before .before .before .before .before .before .before .before .before .before .before .before .before .read-on .ensures .1, c .before .before .before .before .before .before .before .before .before .before .before .before .before .before .before .before .before .before .before .before .loop-test .taken), omega (arith, c .before .before .keep .ensures .0), c .before .block3 .given ∙ c .before .before .before .before .before .before .before .before .before .before .before .before .before .before .before .before .before .block .given ∙ i .3, c .before .before .before .before .before .before .before .before .before .before .lent2 .given ∙ i .4, c .before .before .before .before .before .before .before .before .out2 .given ∙ i .5, i .6)
+    (done .ensures .0, omega (arith, i .1, i .3, done .ensures .1 .0, used, c .before .before .before .before .before .before .before .before .before .before .before .before .before .before .before .before .before .before .read-on .ensures .1, c .before .before .before .before .before .before .before .before .before .before .before .before .before .before .before .before .before .before .before .before .loop-test .taken), omega (arith, c .before .before .keep-most .ensures .0), c .before .block3 .given ∙ c .before .before .before .before .before .before .before .before .before .before .before .before .before .before .before .before .before .block .given ∙ i .3, c .before .before .before .before .before .before .before .before .before .before .lent2 .given ∙ i .4, c .before .before .before .before .before .before .before .before .out2 .given ∙ i .5, i .6)
 
 same-length-7 : tie.Need-same-length-7 Inv-loop μ-loop
 same-length-7 c = c .before .loop .inv .3 ∙ sym (c .before .before .before .before .before .before .pre .0)
@@ -132,7 +132,7 @@ run-spec =
     same-length-5
     same-length-6
     returns-2
-    keep-requires
+    keep-most-requires
     sub-blocks
     loop-less
     loop-again

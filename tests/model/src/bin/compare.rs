@@ -8,9 +8,11 @@ use std::io::Write;
 use std::process::exit;
 
 use model::coverage::answer_counts;
+use model::crosscheck::shown;
 use model::generator::session;
 use model::process::output_of;
 use model::program::Format;
+use model::{saved, text};
 
 const USAGE: &str = "usage: compare --ours PROGRAM --theirs PROGRAM \
                      --seeds FIRST COUNT --lines N [--vectors]";
@@ -109,15 +111,36 @@ impl Task {
         let session = shortest.concat();
         let (ours, theirs) = self.outputs(&session);
         let place = first_difference(&ours, &theirs).unwrap_or(0);
+        let (ours, theirs) = (line_of(&ours, place), line_of(&theirs, place));
+        let lines: Vec<String> = shortest
+            .iter()
+            .map(|line| readable(&text_of(line)))
+            .collect();
         format!(
             "seed {seed} differs; lines of the shortest session found: {}\n{}\n\
              output line {}:\nours:   {}\ntheirs: {}\n",
             shortest.len(),
-            String::from_utf8_lossy(&session).trim_end_matches('\n'),
+            lines.join("\n"),
             place + 1,
-            line_of(&ours, place),
-            line_of(&theirs, place),
+            readable(&ours),
+            readable(&theirs),
         )
+    }
+}
+
+fn text_of(line: &[u8]) -> String {
+    String::from_utf8_lossy(line).trim_end_matches('\n').into()
+}
+
+/// A line, and the fields of the saved line in it, if there is one.
+fn readable(line: &str) -> String {
+    let hex = line.rsplit('\t').next().unwrap_or_default();
+    let bytes = hex.as_bytes().chunks(2).map(text::hex);
+    match bytes.collect::<Option<Vec<u8>>>() {
+        Some(bytes) if bytes.contains(&b'\t') && bytes.len() > saved::FIELDS => {
+            format!("{line}\n        which is {}", shown(&bytes))
+        }
+        _ => line.into(),
     }
 }
 
@@ -132,9 +155,7 @@ fn first_difference(ours: &[u8], theirs: &[u8]) -> Option<usize> {
 
 fn line_of(output: &[u8], number: usize) -> String {
     let line = output.split_inclusive(|&byte| byte == b'\n').nth(number);
-    line.map_or("(no such line)".into(), |line| {
-        String::from_utf8_lossy(line).trim_end_matches('\n').into()
-    })
+    line.map_or("(no such line)".into(), text_of)
 }
 
 /// Adds the answers in an output, and counts its numbered lines.

@@ -1,26 +1,15 @@
 //! What a session does with keys and resets: request A1.
 
-use std::collections::{BTreeMap, BTreeSet};
+use std::collections::BTreeSet;
 use std::fmt;
 
+use super::{add, Counts, Line};
 use crate::controller::Input;
 use crate::keys::LAST;
 use crate::state::{JoystickMode, State};
 
 /// With more keys down than this, nearly all are.
 const MANY: usize = 100;
-
-/// One line, and what it met.
-pub struct Line<'a> {
-    pub text: &'a [u8],
-    pub input: Option<Input>,
-    pub before: &'a State,
-    pub after: &'a State,
-    pub lent: usize,
-    pub answer: usize,
-}
-
-type Counts = BTreeMap<&'static str, u64>;
 
 #[derive(Default)]
 pub struct KeyCoverage {
@@ -55,20 +44,10 @@ impl KeyCoverage {
     }
 }
 
-fn add(counts: &mut Counts, met: &[(&'static str, bool)]) {
-    for &(what, met) in met {
-        *counts.entry(what).or_default() += u64::from(met);
-    }
-}
-
 impl Line<'_> {
     /// How many keys were down.
     fn held(&self) -> usize {
         usize::from(self.before.keys.count())
-    }
-
-    fn taken(&self) -> bool {
-        self.answer == 0
     }
 
     /// Whether a byte 0x01 ends a reset, or would if it were taken.

@@ -1,0 +1,9 @@
+pub mod Facts
+pub mod Back
+pub mod There
+pub mod Modes
+pub mod Commands
+pub mod Within
+pub mod Ranged
+pub mod Bounding
+pub mod Promises

@@ -1,0 +1,9 @@
+pub mod Digits
+pub mod Putting
+pub mod Reading
+pub mod Sizes
+pub mod Scanning
+pub mod Promises
+pub mod Deciding
+pub mod Bounds
+pub mod Examples
