@@ -53,7 +53,7 @@ settings-with m k σ =
 unfoldable pub settings-numbers : Settings → List ℕ
 settings-numbers σ = settings-with (mouse-numbers (σ .mouse)) (stick-numbers (σ .stick)) σ
 
--- held motion, from 0 for the most to the left or up
+-- held motion with its limit added: from 0 for the most negative
 abbrev pub held-number : Motion → ℕ
 held-number m = held-zero + m .plus - m .minus
 

@@ -21,7 +21,7 @@ pub power-up-line : line-of power-up ≡ power-up-text
 unfolding line-of fields-text field-text motion-text numbers settings-numbers pointer-numbers sticks-numbers clock-numbers command-numbers decimal-in key-digits has-key has-bit shown
 power-up-line = refl
 
--- the shortest line: every number has one digit, and the queue is empty
+-- every number has one digit, and the queue is empty
 pub power-up-length : length power-up-text ≡ 227
 power-up-length = refl
 

@@ -1,8 +1,9 @@
 // Plays sessions with buffers of any length. A line `=`, a tab and a number begins a session from power-up in which that many bytes
 // are lent with every input; it is printed as it stands. A line `?`, a tab and a word asks for something that no input tells, and
 // changes nothing: `queue` for the bytes that wait, `lamp` for how many keys are held, `save` for the saved line, into the lent buffer. After
-// `?`, a tab, `load`, a tab and bytes in hexadecimal the session goes on from the state that these bytes are the saved line of. For every line
-// its number in the session, the answer and the bytes are printed, as the text program prints them.
+// `?`, a tab, `load`, a tab and bytes in hexadecimal the session goes on from the state that these bytes are the saved line of, or from
+// power-up where they are the line of none. For every line its number in the session, the answer and the bytes are printed, as the text
+// program prints them.
 ghost use mathlib.Core.Path.{_≡_};
 ghost use Prim.Native.Nat.{_+_, _≤_, _<_, _^_};
 ghost use lib.ListN.{length};
