@@ -128,7 +128,7 @@ PATH=$room/stand-in:$PATH "$room/ikbd" examples/document.txt 2>"$room/said" | cm
 count "./ikbd says at first how long it takes, and names each crate when it is proved" $?
 stand_in "echo 'rt: saved proved (1 s)'; mkdir -p target/bin && cp '$PWD/target/bin/resume' target/bin"
 PATH=$room/stand-in:$PATH "$room/ikbd" save examples/saved-first.txt 2>"$room/said" | cmp - examples/saved.line &&
-    [[ $(head -n 1 "$room/said") == *"6 minutes"* ]] && grep -q "saved proved (1 s)" "$room/said"
+    [[ $(head -n 1 "$room/said") == *"5 minutes"* ]] && grep -q "saved proved (1 s)" "$room/said"
 count "./ikbd save says at first how long it takes, and names each crate when it is proved" $?
 # A program that does not come to its end: an answer is no saved line.
 stand_in ':'
