@@ -119,7 +119,8 @@ impl Clock {
     }
 }
 
-// How many days a month has.
+// How many days a month has. But for February the odd months have 31 and the even ones 30, and from August on, where
+// `month / 8` is 1, the other way round. What is no month has 31, as the definition says.
 pub fn month_length(year: u8, month: u8) -> u8
     ensures { λ r. ⌜ r ≡ month-length year month ⌝ }
 {
@@ -130,7 +131,7 @@ pub fn month_length(year: u8, month: u8) -> u8
             }
             28
         }
-        4 | 6 | 9 | 11 => 30,
+        1..=12 => 30 + (month + month / 8) % 2,
         _ => 31,
     }
 }

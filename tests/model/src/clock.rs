@@ -46,7 +46,9 @@ impl Clock {
 
     pub fn last_day(&self, rules: &Rules) -> u8 {
         match self.month {
-            4 | 6 | 9 | 11 => 30,
+            4 | 6 | 9 => 30,
+            11 => rules.november_end,
+            5 => rules.may_end,
             2 if self.year.is_multiple_of(4) => rules.leap_day,
             2 => 28,
             _ => 31,

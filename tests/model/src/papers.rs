@@ -1,6 +1,6 @@
 //! The sessions that the papers state, with the outputs that they state; and
-//! sessions for sentences of document 01, for questions, for the map of keys and
-//! for saved lines, with outputs worked out by hand.
+//! sessions for sentences of document 01, for questions, for the map of keys, for
+//! saved lines and for the months, with outputs worked out by hand.
 //!
 //! Sessions are written on one line: `;` parts lines, a space stands for a tab,
 //! bare hex bytes are B lines, `*n` repeats what stands before it. Nothing
@@ -23,6 +23,7 @@ const SENTENCES: &str = include_str!("sentences.txt");
 const QUESTIONS: &str = include_str!("questions.txt");
 const KEYS: &str = include_str!("keys.txt");
 const SAVED: &str = include_str!("saved.txt");
+const MONTHS: &str = include_str!("months.txt");
 
 /// A session and what each of its lines gives.
 #[derive(Clone, Debug, PartialEq, Eq)]
@@ -91,6 +92,11 @@ pub fn keys() -> Vec<Paper> {
 /// Every session for request A2: first those of the readings.
 pub fn saved() -> Vec<Paper> {
     table(SAVED)
+}
+
+/// Every session for request A3.
+pub fn months() -> Vec<Paper> {
+    table(MONTHS)
 }
 
 fn table(text: &str) -> Vec<Paper> {

@@ -1,7 +1,7 @@
 //! What a deliberately wrong variant changes: numbers of document 01, what
-//! becomes of held motion that is sent, the map of keys, and saved lines. A
-//! comparison that finds no difference, and a ledger that adds up, are worth
-//! something only if they find these.
+//! becomes of held motion that is sent, the map of keys, saved lines, and a
+//! month's length. A comparison that finds no difference, and a ledger that adds
+//! up, are worth something only if they find these.
 
 use crate::controller::{Answer, Refusal};
 use crate::keys::{Keys, LAST};
@@ -60,6 +60,10 @@ pub struct Rules {
     pub queue_limit: usize,
     /// "February has 29 days when the year divides by 4."
     pub leap_day: u8,
+    /// "the month's end" in November.
+    pub november_end: u8,
+    /// "the month's end" in May.
+    pub may_end: u8,
     /// How far held motion may go either way.
     pub held_limit: i32,
     /// "A button with action 0 to 3 sends all held motion"
@@ -79,6 +83,8 @@ impl Rules {
         break_bit: 0x80,
         queue_limit: QUEUE_ROOM,
         leap_day: 29,
+        november_end: 30,
+        may_end: 31,
         held_limit: HELD_LIMIT,
         at_button: Sending::Once,
         at_resume: Sending::Once,
@@ -100,6 +106,8 @@ impl Rules {
             8 => rules.at_button = Sending::Dropped,
             9 => rules.at_resume = Sending::FirstPacket,
             10..=19 => rules.key_fault = wrong_with_keys(number),
+            36 => rules.november_end = 31,
+            37 => rules.may_end = 32,
             _ => rules.saved_fault = saved::wrong_with_saved_lines(number),
         }
         rules

@@ -1,10 +1,11 @@
 //! Sessions with the length of their buffer, and their expected outputs: those
 //! of the papers, resumes with every length of buffer, bad input in every mode,
-//! sentences of document 01, questions, the map of keys, and saved lines.
+//! sentences of document 01, questions, the map of keys, saved lines, and the
+//! months.
 
 use crate::keys::{CODES, COUNT};
 use crate::limits::{BUFFER, HELD_LIMIT, QUEUE_ROOM};
-use crate::papers::{keys, lines, papers, questions, saved, sentences, Paper};
+use crate::papers::{keys, lines, months, papers, questions, saved, sentences, Paper};
 use crate::program::{Format, Player};
 use crate::rules::Rules;
 
@@ -76,6 +77,12 @@ Every other output line is worked out by hand. In tests/model/src/saved.txt each
 line that is loaded or saved stands as an edit of power-up's: [23=1,57=1E] is \
 power-up's line with field 23 as 1 and field 57 as 1E.";
 
+const MONTHS: &str = "\
+Request A3, the lengths of the months: the clock is set to day 31 of each month of \
+a common year and of a leap year, a second before midnight. Its report shows the \
+month's last day and, after 100 ticks, the first day of the next month, so that no \
+length can be shorter or longer. Every report is written from the calendar.";
+
 /// All sessions.
 pub fn groups() -> Vec<Group> {
     vec![
@@ -97,6 +104,7 @@ pub fn groups() -> Vec<Group> {
             (COUNT - 2..=COUNT + 2).map(all_keys_down).collect(),
         ),
         group(SAVED, saved()),
+        group(MONTHS, months()),
     ]
 }
 

@@ -181,16 +181,17 @@ fn questions_are_asked_where_they_show_something() {
 fn the_wrong_variants_are_seen() {
     let text = session(1, 100_000, Format::Text);
     let right = played(&text, Rules::DOCUMENT);
-    for number in 1..=15 {
+    for number in (1..=15).chain([36]) {
         assert!(played(&text, Rules::wrong(number)) != right, "{number}");
     }
-    for number in (16..=36).chain([0]) {
+    // The end of a May (37) does not show here.
+    for number in (16..=35).chain([0, 37, 38]) {
         assert!(played(&text, Rules::wrong(number)) == right, "{number}");
     }
 }
 
-/// Those that only short buffers, the lamp and saved lines show. A day too many
-/// in a month and a memory load without data are for `saved_lines`.
+/// Those that only short buffers, the lamp and saved lines show. A 31st day in
+/// every month and a memory load without data are for `saved_lines`.
 #[test]
 fn the_wrong_variants_of_the_vectors_are_seen() {
     let text = session(1, 200_000, Format::Vectors);
@@ -201,5 +202,5 @@ fn the_wrong_variants_of_the_vectors_are_seen() {
             "{number}"
         );
     }
-    assert!(played_vectors(&text, Rules::wrong(36)) == right);
+    assert!(played_vectors(&text, Rules::wrong(38)) == right);
 }

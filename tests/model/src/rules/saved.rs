@@ -45,7 +45,7 @@ pub enum SavedFault {
     CommandForgotten,
 }
 
-/// The variants from 20 on.
+/// The variants 20 to 35.
 pub(super) fn wrong_with_saved_lines(number: u32) -> Option<SavedFault> {
     Some(match number {
         20 => SavedFault::WaitFirst,
