@@ -20,6 +20,7 @@ use Rattle.protocol.specs.declared.Received.{Received}
 use Rattle.protocol.specs.declared.Settings.{Settings}
 use Rattle.protocol.specs.Commands.{executed, sets}
 use Rattle.mouse.specs.declared.Mouse.{Mouse}
+use Rattle.mouse.specs.declared.Side.{Side}
 use Rattle.mouse.specs.declared.Moved.{Moved}
 use Rattle.mouse.specs.Mouse.{held-limit}
 use Rattle.mouse.specs.declared.Pressed.{Pressed}
@@ -27,6 +28,7 @@ use Rattle.mouse.specs.declared.Sending.{Sending}
 use Rattle.mouse.specs.Sending.{packets-sent}
 use Rattle.mouse.specs.Reports.{MouseDue}
 use Rattle.mouse.specs.Moves.{moves}
+use Rattle.mouse.specs.Buttons.{with-level, presses, gives-fire}
 use Rattle.mouse.specs.Handing.{moved-of, pressed-of}
 use Rattle.mouse.proofs.Dues.{sent-due, moves-others}
 use Rattle.sticks.specs.declared.Sticks.{Sticks}
@@ -42,7 +44,7 @@ use Rattle.controller.specs.declared.Input.the-variants.{Byte, Key}
 use Rattle.controller.specs.declared.Answer.the-variants.{Taken, OutOfRange, QueueFull, MotionFull, BufferShort}
 use Rattle.controller.specs.State.{IsState, contents, queue-of, queue-room, empty-queue, reset-but}
 use Rattle.controller.specs.Host.{Effect, is-reset, reset-packets}
-use Rattle.controller.specs.Events.{event, event-due, happened, map-after, of-sticks, of-mouse, key-packets}
+use Rattle.controller.specs.Events.{fired, button, event, event-due, happened, map-after, of-sticks, of-mouse, key-packets}
 use Rattle.controller.specs.Step.{due, IsInput, in-range, too-far, motion-full, Did}
 use Rattle.controller.proofs.Answers.{effect-on, refused-did, taken-did, verdict-range, verdict-motion, paused-full, paused-taken, sent-taken, sent-short}
 use Rattle.controller.proofs.Lengths.{queue-small}
@@ -240,18 +242,29 @@ key-comes g code down f = record {
   clock = refl;
 }
 
--- what a button and motion come to
-pub pressed-comes : (d : MouseDue) (n : Sticks) (t : Clock) {v : Pressed} → v ≡ pressed-of d →
-    Comes (of-mouse d n t) (bytes (packets-sent (v .sending)) ++ short-bytes (v .short)) (v .mouse) n t
-pressed-comes d n t {v} f = record {
-  bytes =
-      ap (λ (x : Pressed). bytes (packets-sent (x .sending)) ++ short-bytes (x .short)) f
-      ∙ ap (λ (l : List ℕ). bytes (packets-sent (d .sending)) ++ l) (short-back (bytes (d .others)))
-      ∙ sym (bytes-append (packets-sent (d .sending)) (d .others));
-  mouse = ap (λ (x : Pressed). x .mouse) f;
-  sticks = refl;
-  clock = refl;
-}
+-- what a button comes to: one that gives fire, and any other
+pub fired-comes : (σ : Settings) (side : Side) (down : Bool) (m : Mouse) (n : Sticks) (t : Clock) {v : SticksTold} {x : Mouse} → gives-fire σ side down m ≡ true →
+    v ≡ told-of (fired σ down n) → x ≡ with-level side down m → Comes (button σ side down m n t) (short-bytes (v .short)) x (v .sticks) t
+unfolding button
+fired-comes σ side down m n t g f e =
+    let c = told-comes (fired σ down n) (with-level side down m) t f in
+    rw g (record { bytes = c .bytes; mouse = e; sticks = c .sticks; clock = refl })
+
+pub pressed-comes : (σ : Settings) (side : Side) (down : Bool) (m : Mouse) (n : Sticks) (t : Clock) {v : Pressed} → gives-fire σ side down m ≡ false →
+    v ≡ pressed-of (presses σ side down m) →
+    Comes (button σ side down m n t) (bytes (packets-sent (v .sending)) ++ short-bytes (v .short)) (v .mouse) n t
+unfolding button
+pressed-comes σ side down m n t g f =
+    let d = presses σ side down m in
+    rw g (record {
+      bytes =
+          ap (λ (x : Pressed). bytes (packets-sent (x .sending)) ++ short-bytes (x .short)) f
+          ∙ ap (λ (l : List ℕ). bytes (packets-sent (d .sending)) ++ l) (short-back (bytes (d .others)))
+          ∙ sym (bytes-append (packets-sent (d .sending)) (d .others));
+      mouse = ap (λ (x : Pressed). x .mouse) f;
+      sticks = refl;
+      clock = refl;
+    })
 
 pub pressed-short : (d : MouseDue) {v : Pressed} → v ≡ pressed-of d → length (bytes (d .others)) ≤ short-room → IsShort (v .short)
 pressed-short d f h = run-short (bytes (d .others)) (ap (λ (x : Pressed). x .short) f) h

@@ -49,14 +49,27 @@ impl Core {
             }
             Input::Button { side, down } => {
                 let mouse = self.mouse;
-                let told = mouse.presses(settings, side, down);
-                let sending = told.sending;
-                let short = told.short;
-                let sent = send::send_motion(paused, sending, short, queued, queue, out);
-                answer = sent.answer;
-                count = sent.count;
-                queued = sent.waiting;
-                self.mouse = sent.mouse_after(mouse, told.mouse);
+                // With the mouse off the right button may be the trigger of stick 1.
+                if mouse.gives_fire(settings, side, down) {
+                    let sticks = self.sticks;
+                    let told = event::fire_told(settings, sticks, down);
+                    let short = told.short;
+                    let sent = send::send_short(paused, short, queued, queue, out);
+                    answer = sent.answer;
+                    count = sent.count;
+                    queued = sent.waiting;
+                    self.mouse = sent.mouse_after(mouse, mouse.with_level(side, down));
+                    self.sticks = sent.sticks_after(sticks, told.sticks);
+                } else {
+                    let told = mouse.presses(settings, side, down);
+                    let sending = told.sending;
+                    let short = told.short;
+                    let sent = send::send_motion(paused, sending, short, queued, queue, out);
+                    answer = sent.answer;
+                    count = sent.count;
+                    queued = sent.waiting;
+                    self.mouse = sent.mouse_after(mouse, told.mouse);
+                }
             }
             Input::Move { dx, dy } => {
                 if event::move_in_range(dx, dy) {

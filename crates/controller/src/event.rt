@@ -10,7 +10,7 @@ ghost use Rattle.output.specs.Short.{short-of};
 ghost use Rattle.sticks.specs.Sticks.{IsSticks, OneSticks, told-of};
 ghost use Rattle.sticks.specs.Events.{stick-moved};
 ghost use Rattle.sticks.specs.Ticks.{sampled};
-ghost use Rattle.controller.specs.Events.{key-packets, stick-of};
+ghost use Rattle.controller.specs.Events.{key-packets, stick-of, fired};
 ghost use Rattle.controller.specs.Step.{in-range, up-to};
 use crate::Input;
 use motion::Motion;
@@ -121,4 +121,16 @@ pub(crate) fn stick_told(
         trigger: number(trigger) == 1,
     };
     sticks.stick_moved(settings, one, new)
+}
+
+// The right button as the trigger of stick 1, which stays where it stands.
+pub(crate) fn fire_told(settings: Settings, sticks: Sticks, down: bool) -> SticksTold
+    requires { ⌜ IsSticks (settings .stick) sticks ⌝ }
+    ensures { λ r. ⌜ r ≡ told-of (fired settings down sticks) ⌝ }
+{
+    let new = Stick {
+        position: sticks.one.position,
+        trigger: down,
+    };
+    sticks.stick_moved(settings, true, new)
 }

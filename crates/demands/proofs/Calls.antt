@@ -1,5 +1,5 @@
--- The demands, that no motion is lost or doubled, and which keys are down, over calls of the step in code, each known by its promise alone: calls come to
--- what the definition says.
+-- The demands, that no motion is lost or doubled, which keys are down, and the right button with the mouse off, over calls of the step in code, each known
+-- by its promise alone: calls come to what the definition says.
 -- Assumes nothing.
 use Prim.Native.Nat.{ℕ}
 use native.Mathlib.Omega.{arith}
@@ -11,11 +11,14 @@ use lib.ListN.{length}
 use lib.Seq.{drop-append-seam}
 use Rattle.output.specs.ScanCodes.{break-of}
 use Rattle.output.specs.Writing.{over}
-use Rattle.output.proofs.Writing.{length-over}
+use Rattle.output.proofs.Writing.{length-over, over-nil}
 use Rattle.protocol.specs.Replies.{in-order}
+use Rattle.mouse.specs.declared.Side.the-variants.{Right}
 use Rattle.controller.specs.declared.State.{State}
+use Rattle.controller.specs.declared.Input.{Input}
+use Rattle.controller.specs.declared.Input.the-variants.{Button}
 use Rattle.controller.specs.State.{IsState, contents}
-use Rattle.controller.specs.Step.{due, step}
+use Rattle.controller.specs.Step.{Out, Did, due, step}
 use Rattle.controller.specs.Sequences.{after, history, done, resets-by}
 use Rattle.controller.proofs.Answers.{step-fits, did-answer, did-write}
 use Rattle.controller.proofs.Delivery.{step-drops}
@@ -25,12 +28,14 @@ use Rattle.demands.specs.Demand2.{Flow, flow, flows-in}
 use Rattle.demands.specs.Demand3.{Seen, seen, seen-in, Asking, SendingBack}
 use Rattle.demands.specs.Conservation.{Arrival, arrival, arrivals-in, AllUndisturbed}
 use Rattle.demands.specs.StuckKeys.{down-keys}
-use Rattle.demands.specs.Calls.{Call, Promised, Calls, answer-of, turn-of, flow-of, flows-of, seen-of, arrival-of, arrivals-of, Demand1-of-calls, Demand2-of-calls, Demand2-whole-of-calls, Demand3-of-calls, Conservation-of-calls, NoneDropped-of-calls, MapIsTrue-of-calls, ResetNames-of-calls}
+use Rattle.demands.specs.FireButton.{stick-1, level-after, SwitchLeaves}
+use Rattle.demands.specs.Calls.{Call, Promised, Calls, answer-of, turn-of, flow-of, flows-of, seen-of, arrival-of, arrivals-of, Demand1-of-calls, Demand2-of-calls, Demand2-whole-of-calls, Demand3-of-calls, Conservation-of-calls, NoneDropped-of-calls, MapIsTrue-of-calls, ResetNames-of-calls, WroteNothing, RightButtonFires-of-calls, OthersStaySilent-of-calls, SwitchingOffSendsNothing-of-calls}
 use Rattle.demands.proofs.Demand1.{demand-1}
 use Rattle.demands.proofs.Demand2.{demand-2, demand-2-whole}
 use Rattle.demands.proofs.PutBack.{put-back}
 use Rattle.demands.proofs.Conservation.{conservation, none-dropped}
 use Rattle.demands.proofs.StuckKeys.{map-is-true, reset-names}
+use Rattle.demands.proofs.FireButton.{right-button-fires, others-stay-silent, switching-off-sends-nothing}
 
 -- a call, as a step of a sequence
 module _ (s : State) (c : Call) (p : Promised s c) where
@@ -134,3 +139,43 @@ reset-names-calls s t cs c h p resets taken =
     did-write t (c .input) p
     ∙ named resets (sym (did-answer t (c .input) p) ∙ taken)
     ∙ ap (λ (h : List Seen). 0xF0 ∷ map break-of (down-keys s h)) (sym (r .seen-then))
+
+-- the promise of a call whose input is known
+promised : {s : State} {c : Call} {i : Input} → c .input ≡ i → Promised s c → Did s i (c .before) (c .result) (c .buffer)
+promised {s} {c} e p = subst (λ (i : Input). Did s i (c .before) (c .result) (c .buffer)) e p
+
+-- A4, for calls of the step in code
+pub right-button-fires-calls : RightButtonFires-of-calls
+right-button-fires-calls s down b c h g p q eb ec same =
+    let i = stick-1 s down in
+    let f = right-button-fires s down (length (b .before)) h g in
+    let button = promised eb p in
+    let stick : Did s i (b .before) (c .result) (c .buffer) = subst (λ (l : List ℕ). Did s i l (c .result) (c .buffer)) same (promised ec q) in
+    let a = did-answer s i stick in
+    record {
+      answer = did-answer s (Button Right down) button ∙ ap (λ (o : Out). o .answer) f ∙ sym a;
+      count = button .count ∙ ap (λ (o : Out). length (o .written)) f ∙ sym (stick .count);
+      buffer = button .buffer ∙ ap (λ (o : Out). over (o .written) (b .before)) f ∙ sym (stick .buffer);
+      state = button .state ∙ ap (λ (o : Out). o .state) f ∙ (λ j. level-after down (sym a j) (sym (stick .state) j));
+    }
+
+-- a call whose step is taken and writes nothing
+wrote-nothing : {s : State} {i : Input} {c : Call} → Did s i (c .before) (c .result) (c .buffer) → step s i (length (c .before)) .answer ≡ 0 →
+    step s i (length (c .before)) .written ≡ [] → WroteNothing c
+wrote-nothing {s} {i} {c} d a w = record {
+  taken = did-answer s i d ∙ a;
+  count = d .count ∙ ap length w;
+  buffer = d .buffer ∙ ap (λ (bs : List ℕ). over bs (c .before)) w ∙ sym (over-nil (c .before));
+}
+
+pub others-stay-silent-calls : OthersStaySilent-of-calls
+others-stay-silent-calls s side down c h l n p e =
+    let f = others-stay-silent s side down (length (c .before)) h l n in
+    let d = promised e p in
+    (wrote-nothing d (ap (λ (o : Out). o .answer) f) (ap (λ (o : Out). o .written) f), d .state ∙ ap (λ (o : Out). o .state) f)
+
+pub switching-off-sends-nothing-calls : SwitchingOffSendsNothing-of-calls
+switching-off-sends-nothing-calls s b c h x p e =
+    let f = switching-off-sends-nothing s b (length (c .before)) h x in
+    let d = promised e p in
+    (λ p. wrote-nothing d (f .silent p .0) (f .silent p .1), subst (SwitchLeaves s) (sym (d .state)) (f .leaves))

@@ -28,11 +28,14 @@ use Rattle.protocol.specs.Reading.{Fed, half, whole, feed}
 use Rattle.protocol.specs.Commands.{executed}
 use Rattle.protocol.specs.Replies.{reply, mouse-reply, stick-reply}
 use Rattle.mouse.specs.declared.Mouse.{Mouse}
+use Rattle.mouse.specs.declared.Side.{Side}
 use Rattle.mouse.specs.Mouse.{live}
 use Rattle.mouse.specs.Reports.{packets-due}
 use Rattle.mouse.specs.Moves.{moves}
+use Rattle.mouse.specs.Buttons.{gives-fire}
 use Rattle.mouse.specs.Totals.{Axis, along, says, said, brings}
 use Rattle.mouse.proofs.Dues.{quiet-due}
+use Rattle.mouse.proofs.States.{level-held}
 use Rattle.mouse.proofs.Conserved.{said-append, moves-conserve, moves-dropped, resumed-conserve, commanded-conserve, presses-conserve}
 use Rattle.sticks.specs.declared.Sticks.{Sticks}
 use Rattle.sticks.proofs.Sends.{OfEach, of-stick-moved, of-ticked, of-sampled, of-commanded}
@@ -41,8 +44,8 @@ use Rattle.controller.specs.declared.Input.{Input}
 use Rattle.controller.specs.declared.Input.the-variants.{Byte, Key, Button, Move, Joystick, Sample, Tick}
 use Rattle.controller.specs.declared.Answer.{Answer}
 use Rattle.controller.specs.declared.Answer.the-variants.{Taken, OutOfRange, QueueFull, MotionFull, BufferShort}
-use Rattle.controller.specs.Host.{Due, silent, mouse-effect, stick-effect, other-effect, effect, resumed-packets, resumed-mouse, acted, executes, host-due, reading, command-executed, is-reset}
-use Rattle.controller.specs.Events.{happened, key-packets, event, event-due}
+use Rattle.controller.specs.Host.{Due, Effect, silent, mouse-effect, stick-effect, other-effect, effect, resumed-packets, resumed-mouse, acted, executes, host-due, reading, command-executed, is-reset}
+use Rattle.controller.specs.Events.{happened, key-packets, button, event, event-due}
 use Rattle.controller.specs.Step.{due, told, verdict, step}
 use Rattle.controller.specs.Sequences.{Turn, after, history, executed-by}
 use Rattle.controller.proofs.Delivery.{step-drops}
@@ -186,6 +189,15 @@ module _ (a : Axis) where
       by true l = record { account = moves-conserve a paused σ dx dy m r l }
       by false l = rw (moves-dropped paused σ dx dy m l, quiet-due m) (nothing-due m)
 
+  -- a button: the mouse's, or one that gives fire, which leaves held motion
+  button-adds : (σ : Settings) (side : Side) (down : Bool) (m : Mouse) (k : Sticks) (t : Clock) →
+      Adds m (pos 0) (button σ side down m k t .packets) (button σ side down m k t .mouse)
+  unfolding button
+  button-adds σ side down m k t =
+      both-ways (λ (e : Effect). Adds m (pos 0) (e .packets) (e .mouse)) (gives-fire σ side down m)
+      (λ _. record { account = rw (level-held side down m) (stays m (of-stick-moved Mute sticks-mute σ true _ k) .account) })
+      (λ _. adds-nothing (presses-conserve a σ side down m))
+
   -- any input, if it is taken
   due-adds : (s : State) (i : Input) → s .settings .mouse ≡ Relative → Spared (executed-by s i) →
       Adds (s .mouse) (brought-by a s i) (due s i .packets) (due s i .state .mouse)
@@ -193,7 +205,7 @@ module _ (a : Axis) where
   due-adds s (Byte b) r h = host-adds (feed (s .command) b) s r h
   due-adds s (Key code down) r h =
       stays (s .mouse) (both-ways (Mute 1) (monitors (s .settings .stick)) (λ _. sticks-mute .none 1) (λ _. sticks-mute .scan _))
-  due-adds s (Button side down) r h = adds-nothing (presses-conserve a (s .settings) side down (s .mouse))
+  due-adds s (Button side down) r h = button-adds (s .settings) side down (s .mouse) (s .sticks) (s .clock)
   due-adds s (Move dx dy) r h = move-adds (s .paused) (s .settings) dx dy (s .mouse) r
   due-adds s (Joystick stick position trigger) r h = stays (s .mouse) (of-stick-moved Mute sticks-mute (s .settings) _ _ (s .sticks))
   due-adds s (Sample b) r h = stays (s .mouse) (of-sampled Mute sticks-mute (s .paused) (s .settings) (natAbs b) (s .sticks))

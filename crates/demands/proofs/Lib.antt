@@ -6,6 +6,7 @@ pub mod Asking
 pub mod PutBack
 pub mod Conservation
 pub mod StuckKeys
+pub mod FireButton
 pub mod Calls
 pub mod Witness3
 pub mod Rules
@@ -14,5 +15,6 @@ pub mod MostDue
 pub mod MotionWitness
 pub mod Readings
 pub mod KeyReadings
+pub mod FireReadings
 pub mod Idling
 pub mod ShutOut

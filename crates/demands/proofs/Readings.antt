@@ -5,7 +5,7 @@ use mathlib.Core.Path.{refl}
 use mathlib.Core.Bool.{Bool, true}
 use mathlib.Core.List.{List, [], _∷_, _++_}
 use lib.IntN.{ℤ}
-use Rattle.mouse.specs.declared.Side.the-variants.{Left}
+use Rattle.mouse.specs.declared.Side.the-variants.{Left, Right}
 use Rattle.controller.specs.declared.Input.{Input}
 use Rattle.controller.specs.declared.Input.the-variants.{Key, Button}
 use Rattle.controller.specs.State.{power-up, queue-room, most-due}
@@ -13,12 +13,15 @@ use Rattle.demands.specs.Sessions.{host, move, plus, minus, stick, tick,
 use Rattle.demands.proofs.MostDue.{to-the-limit}
 use Rattle.demands.proofs.Rules.{rules, of-keys}
 
--- "K hex 1/0" and "L 1/0"
+-- "K hex 1/0", "L 1/0" and "R 1/0"
 abbrev pub key : ℕ → Bool → List Input
 key code down = Key code down ∷ []
 
-abbrev left : Bool → List Input
+abbrev pub left : Bool → List Input
 left down = Button Left down ∷ []
+
+abbrev pub right : Bool → List Input
+right down = Button Right down ∷ []
 
 -- a motion along X alone
 abbrev along-x : ℤ → List Input
@@ -33,7 +36,7 @@ pub record Played : Type 0 where
   pub lent : ℕ
   pub session : List Stretch
 
-abbrev with-buffer-of : ℕ → List Stretch → Played
+abbrev pub with-buffer-of : ℕ → List Stretch → Played
 with-buffer-of lent xs = record { lent = lent; session = xs }
 
 -- the buffer of the text program

@@ -14,7 +14,7 @@ use Rattle.mouse.specs.Sending.{split, arrows, packets-sent}
 use Rattle.mouse.specs.Reports.{send-all}
 use Rattle.mouse.specs.Reports as reports
 use Rattle.mouse.specs.Moves.{incoming, added-to-held, either-reaches, send-deltas, coordinates-moved, motion-due, released, live-motion, moves, overflows}
-use Rattle.mouse.specs.Buttons.{live-button, presses}
+use Rattle.mouse.specs.Buttons.{live-button, presses, gives-fire}
 use Rattle.mouse.specs.Commands.{commanded}
 use Rattle.sticks.specs.Sticks.{horizontal, vertical}
 use Rattle.sticks.specs.Events.{heard, stick-reported, trigger-keys, axis-turned, axis-moved, stick-keyed, stick-moved-in}
@@ -27,7 +27,7 @@ use Rattle.keys.specs.Words.{has-bit, put}
 use Rattle.keys.specs.Keys.{has-key, struck, those, keys-of, break-packets}
 use Rattle.controller.specs.State.{queue-of}
 use Rattle.controller.specs.Host.{mouse-effect, stick-effect, other-effect, effect, acted, reset-due, executes, host-due, command-executed}
-use Rattle.controller.specs.Events.{happened, key-packets, event, map-after, event-due}
+use Rattle.controller.specs.Events.{happened, key-packets, button, event, map-after, event-due}
 use Rattle.controller.specs.Step.{due, in-range, out-of-range, queue-full, too-far, motion-full, buffer-short, verdict, told, step}
 use Rattle.controller.specs.Sequences.{after, history, all-written}
 
@@ -53,7 +53,7 @@ unfolding mouse-executed stick-executed executed mouse-sets stick-sets other-set
 of-settings = tt
 
 of-mouse : Unit {0}
-unfolding live gathers held-most split arrows packets-sent send-all reports.report live-button presses commanded
+unfolding live gathers held-most split arrows packets-sent send-all reports.report live-button presses gives-fire commanded
 of-mouse = tt
 
 of-moves : Unit {0}
@@ -73,7 +73,7 @@ unfolding monitoring-left mouse-commanded commands.commanded mouse-effect stick-
 of-commands = tt
 
 of-steps : Unit {0}
-unfolding queue-of happened key-packets event map-after event-due due in-range out-of-range queue-full too-far motion-full buffer-short verdict told step
+unfolding queue-of happened key-packets button event map-after event-due due in-range out-of-range queue-full too-far motion-full buffer-short verdict told step
 of-steps = tt
 
 of-sequences : Unit {0}

@@ -1,27 +1,34 @@
--- The three demands, that no motion is lost or doubled, and which keys are down, over calls of the step in code, each known by its promise alone. Answer,
--- bytes and state are read off what a call handed back; what fell due is the definition's.
+-- The three demands, that no motion is lost or doubled, which keys are down, and the right button with the mouse off, over calls of the step in code, each
+-- known by its promise alone. Answer, bytes and state are read off what a call handed back; what fell due is the definition's.
 use Prim.Native.Nat.{ℕ, _≤_}
 use mathlib.Core.Path.{_≡_}
-use mathlib.Core.Bool.{true, cond, _&&_}
+use mathlib.Core.Bool.{Bool, true, false, cond, _&&_}
 use mathlib.Core.List.{List, [], _∷_, map}
 use lib.Dec.{eqb}
 use lib.ListN.{length, take, drop}
 use Rattle.output.specs.ScanCodes.{first-key, break-of}
 use Rattle.protocol.specs.declared.Inquiry.{Inquiry}
+use Rattle.protocol.specs.declared.OtherCommand.the-variants.{MouseOff}
+use Rattle.protocol.specs.declared.Meaning.the-variants.{OfOther}
 use Rattle.protocol.specs.Replies.{in-order}
+use Rattle.mouse.specs.declared.Side.{Side}
+use Rattle.mouse.specs.declared.Side.the-variants.{Right}
+use Rattle.mouse.specs.Mouse.{live}
 use Rattle.mouse.specs.Totals.{Axis}
 use Rattle.keys.specs.Keys.{has-key}
 use Rattle.controller.specs.declared.State.{State}
 use Rattle.controller.specs.declared.Input.{Input}
+use Rattle.controller.specs.declared.Input.the-variants.{Byte, Button}
 use Rattle.controller.specs.declared.Stepped.{Stepped}
 use Rattle.controller.specs.State.{IsState, contents, most-due}
 use Rattle.controller.specs.Step.{number, Did, step, IsInput}
-use Rattle.controller.specs.Sequences.{Turn, AreInputs, resets-by}
+use Rattle.controller.specs.Sequences.{Turn, AreInputs, executed-by, resets-by}
 use Rattle.demands.specs.Demand1.{ByTable}
 use Rattle.demands.specs.Demand2.{Flow, all-dropped, InOrder, Whole}
 use Rattle.demands.specs.Demand3.{Seen, Asking, SendingBack}
 use Rattle.demands.specs.Conservation.{Arrival, AllUndisturbed, Conserved}
 use Rattle.demands.specs.StuckKeys.{down-after, down-keys}
+use Rattle.demands.specs.FireButton.{GivesFire, stick-1, level-after, level-changed, NoFire, SwitchLeaves}
 
 -- one call: the input, the lent buffer before it, what it handed back, and the buffer after it
 pub record Call : Type 0 where
@@ -136,3 +143,31 @@ MapIsTrue-of-calls = (s t : State) (cs : List Call) (k : ℕ) → Calls s cs t �
 abbrev pub ResetNames-of-calls : Type 0
 ResetNames-of-calls = (s t : State) (cs : List Call) (c : Call) → Calls s cs t → Promised t c → resets-by t (c .input) ≡ true → answer-of c ≡ 0 →
     written-by c ≡ 0xF0 ∷ map break-of (down-keys s (map seen-of cs))
+
+-- two calls came to the same, but that the first changed the right button's level where it was taken
+pub record SameButForLevel (down : Bool) (b c : Call) : Type 0 where
+  pub answer : answer-of b ≡ answer-of c
+  pub count : b .result .count ≡ c .result .count
+  pub buffer : b .buffer ≡ c .buffer
+  pub state : b .result .state ≡ level-after down (answer-of c) (c .result .state)
+
+-- A4 for two calls from one state, with the same buffer: as RightButtonFires
+abbrev pub RightButtonFires-of-calls : Type 0
+RightButtonFires-of-calls = (s : State) (down : Bool) (b c : Call) → IsState s → GivesFire s down → Promised s b → Promised s c →
+    b .input ≡ Button Right down → c .input ≡ stick-1 s down → c .before ≡ b .before → SameButForLevel down b c
+
+-- a call that was taken and wrote nothing
+pub record WroteNothing (c : Call) : Type 0 where
+  pub taken : answer-of c ≡ 0
+  pub count : c .result .count ≡ 0
+  pub buffer : c .buffer ≡ c .before
+
+-- A4 for calls: as OthersStaySilent
+abbrev pub OthersStaySilent-of-calls : Type 0
+OthersStaySilent-of-calls = (s : State) (side : Side) (down : Bool) (c : Call) → IsState s → live (s .settings) ≡ false → NoFire s down side →
+    Promised s c → c .input ≡ Button side down → WroteNothing c × (c .result .state ≡ level-changed side down s)
+
+-- A4 for calls: as SwitchingOffSendsNothing
+abbrev pub SwitchingOffSendsNothing-of-calls : Type 0
+SwitchingOffSendsNothing-of-calls = (s : State) (b : ℕ) (c : Call) → IsState s → executed-by s (Byte b) ≡ OfOther MouseOff → Promised s c → c .input ≡ Byte b →
+    (s .paused ≡ false → WroteNothing c) × SwitchLeaves s (c .result .state)

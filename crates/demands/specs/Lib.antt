@@ -4,6 +4,7 @@ pub mod Demand2
 pub mod Demand3
 pub mod Conservation
 pub mod StuckKeys
+pub mod FireButton
 pub mod Calls
 pub mod Sessions
 pub mod ShutOut

@@ -28,7 +28,7 @@ use Rattle.mouse.specs.Mouse.{live, with-held}
 use Rattle.mouse.specs.Reports.{MouseDue, packets-due, quiet, send-all, report}
 use Rattle.mouse.specs.Sending.{split, packets-for, packets-sent, nothing-sent}
 use Rattle.mouse.specs.Moves.{incoming, added-to-held, either-reaches, motion-due, released, resumed, live-motion, moves}
-use Rattle.mouse.specs.Buttons.{level, with-level, as-keys, action-reports, live-button, presses}
+use Rattle.mouse.specs.Buttons.{level, with-level, unchanged, as-keys, action-reports, live-button, presses}
 use Rattle.mouse.specs.Commands.{commanded}
 use Rattle.mouse.specs.Totals.{Axis, AlongX, AlongY, along, says, said, brings}
 use Rattle.mouse.proofs.Dues.{none-sent, all-due}
@@ -158,7 +158,7 @@ unfolding presses
 presses-conserve a σ side down m =
     let now = with-level side down m in
     let same = ap (λ (h : Motions). value (along a h)) (level-held side down m) in
-    both-ways (Keeps a m) (cond down (level side m) (not (level side m))) (λ t. nothing-said a _ refl)
+    both-ways (Keeps a m) (unchanged side down m) (λ t. nothing-said a _ refl)
     (λ t.
     both-ways (Keeps a m) (live σ) (λ l. live-button-keeps a (σ .mouse) (σ .action) side down now ∙ same) (λ l. nothing-said a _ refl ∙ same))
 

@@ -3,7 +3,7 @@
 use Prim.Native.Nat.{ℕ, _≤_, max}
 use native.Mathlib.Omega.{arith}
 use mathlib.Core.Path.{_≡_, refl}
-use mathlib.Core.Bool.{Bool, cond, not, true, false}
+use mathlib.Core.Bool.{Bool, true, false}
 use mathlib.Core.List.{List, [], append-nil}
 use lib.Dec.{eqb}
 use lib.ListN.{length}
@@ -24,7 +24,7 @@ use Rattle.mouse.specs.Mouse.{live, with-held}
 use Rattle.mouse.specs.Sending.{buttons, split, packets-for, arrows, packets-sent, nothing-sent}
 use Rattle.mouse.specs.Reports.{MouseDue, packets-due, quiet, send-all, report}
 use Rattle.mouse.specs.Moves.{added-to-held, either-reaches, send-deltas, motion-due, released, resumed, live-motion, moves}
-use Rattle.mouse.specs.Buttons.{level, with-level, as-keys, action-reports, live-button, presses}
+use Rattle.mouse.specs.Buttons.{with-level, unchanged, as-keys, action-reports, live-button, presses}
 use Rattle.mouse.specs.Commands.{commanded}
 
 no-arrows : arrows at-rest ≡ []
@@ -92,7 +92,7 @@ button-others (Keycode delta) action side down m = omega arith
 pub presses-others : (σ : Settings) (side : Side) (down : Bool) (m : Mouse) → length (bytes (presses σ side down m .others)) ≤ short-room
 unfolding presses
 presses-others σ side down m =
-    both-ways (λ (d : MouseDue). length (bytes (d .others)) ≤ short-room) (cond down (level side m) (not (level side m))) (λ _. omega arith)
+    both-ways (λ (d : MouseDue). length (bytes (d .others)) ≤ short-room) (unchanged side down m) (λ _. omega arith)
     (λ _. both-ways (λ (d : MouseDue). length (bytes (d .others)) ≤ short-room) (live σ)
     (λ _. button-others (σ .mouse) (σ .action) side down (with-level side down m)) (λ _. omega arith))
 

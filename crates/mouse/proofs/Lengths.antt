@@ -3,7 +3,7 @@
 use Prim.Native.Nat.{ℕ, zero, suc, _+_, _*_, _≤_, max}
 use native.Mathlib.Omega.{arith}
 use mathlib.Core.Path.{_≡_, refl, _∙_}
-use mathlib.Core.Bool.{Bool, true, false, cond, not}
+use mathlib.Core.Bool.{Bool, true, false}
 use mathlib.Core.List.{List, [], _++_}
 use lib.Dec.{eqb}
 use lib.ListN.{length, length-append}
@@ -28,7 +28,7 @@ use Rattle.mouse.specs.declared.Side.{Side}
 use Rattle.mouse.specs.Mouse.{live, held-limit, with-held}
 use Rattle.mouse.specs.Reports.{MouseDue, packets-due, send-all, report}
 use Rattle.mouse.specs.Moves.{added-to-held, either-reaches, send-deltas, coordinates-moved, motion-due, released, live-motion, moves}
-use Rattle.mouse.specs.Buttons.{level, with-level, live-button, presses, as-keys, action-reports}
+use Rattle.mouse.specs.Buttons.{with-level, unchanged, live-button, presses, as-keys, action-reports}
 use Rattle.mouse.specs.Commands.{commanded}
 use Rattle.mouse.specs.Sending.{split, arrows, packets-sent, nothing-sent}
 use Rattle.mouse.proofs.Dues.{none-sent, quiet-due}
@@ -155,7 +155,7 @@ pub presses-length : (paused : Bool) (σ : Settings) (side : Side) (down : Bool)
 unfolding presses
 presses-length paused σ side down m g =
     let h = held-small paused σ m g in
-    both-ways (λ (d : MouseDue). length (bytes (packets-due d)) ≤ 4 * held-limit) (cond down (level side m) (not (level side m)))
+    both-ways (λ (d : MouseDue). length (bytes (packets-due d)) ≤ 4 * held-limit) (unchanged side down m)
     (λ _. few _ (omega arith))
     (λ _. both-ways (λ (d : MouseDue). length (bytes (packets-due d)) ≤ 4 * held-limit) (live σ)
     (λ _. button-length (σ .mouse) (σ .action) side down (with-level side down m) (rw (level-held side down m) (h .0)) (rw (level-held side down m) (h .1)))

@@ -29,7 +29,7 @@ use Rattle.mouse.specs.declared.Side.the-variants.{Left, Right}
 use Rattle.mouse.specs.Mouse.{IsMouse, OneMouse, live, gathers, held-limit, held-usual, held-most, maximum-of, with-held, at-power-up}
 use Rattle.mouse.specs.Reports.{MouseDue, send-all}
 use Rattle.mouse.specs.Moves.{incoming, added-to-held, either-reaches, quotients, send-deltas, coordinates-moved, motion-due, released, live-motion, moves, overflows, negates-dy}
-use Rattle.mouse.specs.Buttons.{level, with-level, live-button, presses, as-keys, action-reports, with-latch}
+use Rattle.mouse.specs.Buttons.{with-level, unchanged, live-button, presses, as-keys, action-reports, with-latch}
 use Rattle.mouse.specs.Commands.{commanded, switched-off}
 
 pub record GoodMouse (paused : Bool) (σ : Settings) (m : Mouse) : Type 0 where
@@ -268,15 +268,18 @@ button-within (Absolute q) action side down {most} {p} m h w =
     (λ _. both-ways (λ (d : MouseDue). Within most p (d .mouse)) (action-reports action down) (λ _. latch-within side down w) (λ _. latch-within side down w))
 button-within (Keycode delta) action side down m h w = w
 
+pub level-is : {paused : Bool} {σ : Settings} (side : Side) (down : Bool) {m : Mouse} → GoodMouse paused σ m → GoodMouse paused σ (with-level side down m)
+level-is side down g = good (level-within side down (within g))
+
 pub presses-is : (paused : Bool) (σ : Settings) (side : Side) (down : Bool) (m : Mouse) → GoodMouse paused σ m →
     GoodMouse paused σ (presses σ side down m .mouse)
 unfolding presses
 presses-is paused σ side down m g =
-    both-ways (λ (d : MouseDue). GoodMouse paused σ (d .mouse)) (cond down (level side m) (not (level side m)))
+    both-ways (λ (d : MouseDue). GoodMouse paused σ (d .mouse)) (unchanged side down m)
     (λ _. g)
     (λ _. both-ways (λ (d : MouseDue). GoodMouse paused σ (d .mouse)) (live σ)
     (λ _. good (button-within (σ .mouse) (σ .action) side down (with-level side down m) (least-most paused σ) (level-within side down (within g))))
-    (λ _. good (level-within side down (within g))))
+    (λ _. level-is side down g))
 
 -- Not paused, only the mouse's mode matters to its ranges.
 pub same-mode-is : (σ τ : Settings) (m : Mouse) → τ .mouse ≡ σ .mouse → GoodMouse false σ m → GoodMouse false τ m

@@ -1,12 +1,13 @@
 -- The mouse's buttons (document 01, "The mouse").
 use Prim.Native.Nat.{ℕ, _/_, _%_}
-use mathlib.Core.Bool.{Bool, true, false, cond, not}
+use mathlib.Core.Bool.{Bool, true, false, cond, not, _&&_}
 use lib.Dec.{eqb}
 use Rattle.output.specs.ScanCodes.{code-sent, key-left, key-right}
 use Rattle.output.specs.Packets.{scan}
 use Rattle.protocol.specs.declared.MouseMode.{MouseMode}
 use Rattle.protocol.specs.declared.MouseMode.the-variants.{Relative, Absolute, Keycode}
 use Rattle.protocol.specs.declared.Settings.{Settings}
+use Rattle.protocol.specs.Settings.{monitors, is-mouse}
 use Rattle.mouse.specs.declared.Latches.{Latches}
 use Rattle.mouse.specs.declared.Mouse.{Mouse}
 use Rattle.mouse.specs.declared.Side.{Side}
@@ -23,6 +24,10 @@ level Right m = m .right
 abbrev pub with-level : Side → Bool → Mouse → Mouse
 with-level Left down m = record { place = m .place; held = m .held; left = down; right = m .right; latches = m .latches }
 with-level Right down m = record { place = m .place; held = m .held; left = m .left; right = down; latches = m .latches }
+
+-- "An unchanged level does nothing": the button is at the level that its event brings
+abbrev pub unchanged : Side → Bool → Mouse → Bool
+unchanged side down m = cond down (level side m) (not (level side m))
 
 -- "keys 0x74 left, 0x75 right"
 abbrev pub key-of : Side → ℕ
@@ -62,8 +67,13 @@ live-button (Absolute maximum) action side down m =
     (cond (action-reports action down) (one-packet (report l) l) (quiet l))
 live-button (Keycode delta) action side down m = button-as-key side down m
 
--- A button event: "An unchanged level does nothing"; not live, "buttons only change their level".
+-- A button event, as far as it is the mouse's: "An unchanged level does nothing"; not live, "buttons only change their level".
 unfoldable pub presses : Settings → Side → Bool → Mouse → MouseDue
 presses σ side down m =
-    cond (cond down (level side m) (not (level side m))) (quiet m)
+    cond (unchanged side down m) (quiet m)
     (cond (live σ) (live-button (σ .mouse) (σ .action) side down (with-level side down m)) (quiet (with-level side down m)))
+
+-- A4: "With the mouse off, port 0 a mouse and no monitoring mode, a changed right button" gives fire; "The left button stays silent."
+unfoldable pub gives-fire : Settings → Side → Bool → Mouse → Bool
+gives-fire σ Left down m = false
+gives-fire σ Right down m = not (σ .mouseon) && is-mouse (σ .port0) && not (monitors (σ .stick)) && not (unchanged Right down m)

@@ -1,9 +1,8 @@
 // The buttons in the three modes of the mouse.
 ghost use mathlib.Core.Path.{_≡_};
-ghost use mathlib.Core.Bool.{cond, not};
 ghost use Rattle.protocol.specs.declared.MouseMode.the-variants.{Relative, Absolute};
 ghost use Rattle.mouse.specs.Mouse.{origin};
-ghost use Rattle.mouse.specs.Buttons.{level, with-level, key-of, latched, with-latch, action-reports, button-as-key, live-button, presses};
+ghost use Rattle.mouse.specs.Buttons.{level, with-level, unchanged, key-of, latched, with-latch, action-reports, button-as-key, live-button, presses, gives-fire};
 ghost use Rattle.mouse.specs.Handing.{pressed-of, only-short};
 use crate::Latches;
 use crate::Mouse;
@@ -28,6 +27,30 @@ impl Mouse {
         }
         let mode = settings.mouse;
         next.live_button(mode, settings.action, side, down)
+    }
+
+    // With the mouse off the right button is the fire button of stick 1, where port 0 is a mouse and no monitoring mode is on. Does this
+    // event give fire, or let go of it?
+    pub fn gives_fire(self, settings: Settings, side: Side, down: bool) -> bool
+        ensures { λ r. ⌜ r ≡ gives-fire settings side down self ⌝ }
+    {
+        match side {
+            Side::Left => false,
+            Side::Right => {
+                if settings.mouseon {
+                    return false;
+                }
+                let role = settings.port0;
+                if !protocol::for_mouse(role) {
+                    return false;
+                }
+                let stick = settings.stick;
+                if protocol::is_monitoring(stick) {
+                    return false;
+                }
+                !self.unchanged(side, down)
+            }
+        }
     }
 
     // A live button whose level has changed, in each mode.
@@ -92,7 +115,7 @@ impl Mouse {
 
     // Is the button at this level already?
     fn unchanged(self, side: Side, down: bool) -> bool
-        ensures { λ r. ⌜ r ≡ cond down (level side self) (not (level side self)) ⌝ }
+        ensures { λ r. ⌜ r ≡ unchanged side down self ⌝ }
     {
         let was = self.level(side);
         if down {
@@ -110,7 +133,7 @@ impl Mouse {
         }
     }
 
-    fn with_level(mut self, side: Side, down: bool) -> Mouse
+    pub fn with_level(mut self, side: Side, down: bool) -> Mouse
         ensures { λ r. ⌜ r ≡ with-level side down self ⌝ }
     {
         match side {

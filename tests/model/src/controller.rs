@@ -106,7 +106,10 @@ impl State {
                 stick,
                 position,
                 trigger,
-            } => self.stick(stick as usize, (128 * trigger + position) as u8, lent, out),
+            } => {
+                let byte = (128 * trigger + position) as u8;
+                self.stick_event(stick as usize, byte, lent, out)
+            }
             Input::Sample(bit) => self.sample(bit as u8, lent, out),
             Input::Tick => self.tick(lent, out),
         }
@@ -149,6 +152,9 @@ impl State {
         if self.mouse.is_down(button) == down {
             return Ok(());
         }
+        if self.is_fire_button(button) {
+            return self.fire(button, down, lent, out);
+        }
         let mut mouse = self.mouse;
         mouse.toggle(button);
         if self.mouse_is_live() {
@@ -157,6 +163,18 @@ impl State {
         }
         self.mouse = mouse;
         Ok(())
+    }
+
+    /// Request A4: "a changed right button changes its level and else is handled
+    /// exactly as a stick 1 event with the position held and that trigger."
+    /// "Refusals: 2 and 4 as for a stick event", and they leave the level too.
+    fn fire(&mut self, button: Button, down: bool, lent: usize, out: &mut Vec<u8>) -> Answer {
+        let byte = self.rules.fire_byte(&self.joysticks, down);
+        let answer = self.stick(1, byte, lent, out);
+        if self.rules.level_follows(answer) {
+            self.mouse.toggle(button);
+        }
+        answer
     }
 
     /// "Otherwise motion is dropped": when the mouse is not live.
@@ -179,6 +197,13 @@ impl State {
         }
         self.mouse = mouse;
         Ok(())
+    }
+
+    /// "A stick event always stores its byte (128·trigger + position)."
+    fn stick_event(&mut self, stick: usize, byte: u8, lent: usize, out: &mut Vec<u8>) -> Answer {
+        let fires = stick == 1 && self.is_fire_button(Button::Right);
+        let pressed = fires && self.mouse.is_down(Button::Right);
+        self.stick(stick, self.rules.stick_byte(byte, pressed), lent, out)
     }
 
     fn stick(&mut self, stick: usize, byte: u8, lent: usize, out: &mut Vec<u8>) -> Answer {
@@ -282,6 +307,10 @@ impl State {
     fn push_answer(&self, code: u8, out: &mut Vec<u8>) {
         match code {
             0x0D => self.mouse.push_report(out),
+            // Request A4: "Switching the mouse off sends nothing."
+            0x12 if self.mouse.is_down(Button::Right) => {
+                self.rules.push_at_mouse_off(&self.joysticks, out);
+            }
             0x16 => {
                 let [first, second] = self.joysticks.sticks;
                 out.extend_from_slice(&[0xFD, first, second]);
@@ -347,8 +376,12 @@ impl State {
         self.set_role(command.code());
     }
 
-    /// "and, from a monitoring mode, go to event mode"
+    /// "and, from a monitoring mode, go to event mode"; a trigger that the right
+    /// button set "stays set when the mouse is switched on again" (reading 114).
     fn enter_mouse_mode(&mut self, mode: MouseMode) {
+        if !self.mouse.on {
+            self.rules.at_mouse_on(&mut self.joysticks);
+        }
         self.mouse.enter(mode);
         self.joysticks.leave_monitoring();
     }

@@ -4,6 +4,7 @@ use std::collections::BTreeMap;
 use std::fmt;
 
 use crate::controller::Input;
+use crate::coverage::fire::FireCoverage;
 use crate::coverage::keys::KeyCoverage;
 use crate::coverage::saved::SavedCoverage;
 use crate::limits::BUFFER;
@@ -12,6 +13,7 @@ use crate::rules::Rules;
 use crate::state::{JoystickMode, MouseMode, Role, State};
 use crate::text::{parse, BAD_LINE};
 
+pub mod fire;
 pub mod keys;
 pub mod saved;
 
@@ -73,6 +75,7 @@ pub struct Coverage {
     pub longest: usize,
     pub keys: KeyCoverage,
     pub saved: SavedCoverage,
+    pub fire: FireCoverage,
 }
 
 impl Coverage {
@@ -87,12 +90,16 @@ impl Coverage {
             longest: 0,
             keys: KeyCoverage::default(),
             saved: SavedCoverage::default(),
+            fire: FireCoverage::default(),
         };
         let mut player = Player::new(format, Rules::DOCUMENT, BUFFER);
         for line in session.split_inclusive(|&byte| byte == b'\n') {
             let line = line.strip_suffix(b"\n").unwrap_or(line);
             match session_head(line) {
-                Some(lent) if format == Format::Vectors => player.restart(lent),
+                Some(lent) if format == Format::Vectors => {
+                    player.restart(lent);
+                    coverage.fire.start_session();
+                }
                 _ => coverage.count(&mut player, line),
             }
         }
@@ -125,6 +132,7 @@ impl Coverage {
         };
         self.keys.count(&line);
         self.saved.count(&line);
+        self.fire.count(&line);
     }
 
     fn count_command(&mut self, before: &State, after: &State, byte: u8) {
@@ -202,7 +210,7 @@ impl fmt::Display for Coverage {
                 )?;
             }
         }
-        write!(f, "{}{}", self.keys, self.saved)
+        write!(f, "{}{}{}", self.keys, self.saved, self.fire)
     }
 }
 

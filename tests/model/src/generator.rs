@@ -11,6 +11,7 @@ use crate::program::Format;
 use crate::random::Random;
 use crate::spoil::Kind;
 
+mod fire_button;
 mod saved_states;
 mod stuck_keys;
 
@@ -72,6 +73,8 @@ const SCENES: &[(u64, Scene)] = &[
     (40, Generator::roles),
     (30, Generator::stuck_keys),
     (4, Generator::no_keys),
+    (70, Generator::fire_button),
+    (10, Generator::fire_at_a_full_queue),
 ];
 
 /// The commands, and how often each comes.
@@ -350,11 +353,18 @@ impl Generator {
         let keys = self.random.below(16) < 3;
         let lent = if keys { self.lent_for_keys() } else { lent };
         self.line(&format!("=\t{lent}"));
-        if lent + 1 >= BUFFER && self.random.one_in(40) {
-            self.longest_resume();
+        if lent + 1 >= BUFFER {
+            match self.random.below(40) {
+                0 => self.longest_resume(),
+                1 => self.fire_at_a_full_queue(),
+                _ => {}
+            }
         }
         if keys {
             self.keys_for(lent);
+        } else if lent < 3 && self.random.one_in(3) {
+            // Room for nothing, for a key, or for a packet of the fire button.
+            self.fire_button();
         }
         // Some have lines enough to fill the queue twice; the more, the rarer.
         let longest = match self.random.one_in(QUEUE_ROOM as u64 / 20) {

@@ -7,7 +7,8 @@ use crate::state::{acting, arrow, JoystickMode, Role, Velocity, X, Y};
 pub const LONGEST_COUNT: u16 = 2551;
 /// "samples (0 to 7 of them)"
 pub const MOST_SAMPLES: u8 = 7;
-const TRIGGER: u8 = 0x80;
+/// The trigger in a stick's byte.
+pub const TRIGGER: u8 = 0x80;
 
 #[derive(Clone, Copy, Debug, PartialEq, Eq)]
 pub struct Joysticks {

@@ -1,5 +1,5 @@
 //! A model of the keyboard controller, written from the papers: document 01,
-//! requests A1 and A2 of document 02, the protocol's text and the readings of
+//! requests A1, A2 and A4 of document 02, the protocol's text and the readings of
 //! them.
 //!
 //! `controller::step` takes one input in a state; `text` reads and writes the

@@ -1,6 +1,7 @@
 //! The sessions that the papers state, with the outputs that they state; and
 //! sessions for sentences of document 01, for questions, for the map of keys, for
-//! saved lines and for the months, with outputs worked out by hand.
+//! saved lines, for the months and for the right button with the mouse off, with
+//! outputs worked out by hand.
 //!
 //! Sessions are written on one line: `;` parts lines, a space stands for a tab,
 //! bare hex bytes are B lines, `*n` repeats what stands before it. Nothing
@@ -24,6 +25,7 @@ const QUESTIONS: &str = include_str!("questions.txt");
 const KEYS: &str = include_str!("keys.txt");
 const SAVED: &str = include_str!("saved.txt");
 const MONTHS: &str = include_str!("months.txt");
+const FIRE: &str = include_str!("fire.txt");
 
 /// A session and what each of its lines gives.
 #[derive(Clone, Debug, PartialEq, Eq)]
@@ -97,6 +99,11 @@ pub fn saved() -> Vec<Paper> {
 /// Every session for request A3.
 pub fn months() -> Vec<Paper> {
     table(MONTHS)
+}
+
+/// Every session for request A4: first those of the readings.
+pub fn fire() -> Vec<Paper> {
+    table(FIRE)
 }
 
 fn table(text: &str) -> Vec<Paper> {

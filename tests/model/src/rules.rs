@@ -1,14 +1,17 @@
 //! What a deliberately wrong variant changes: numbers of document 01, what
-//! becomes of held motion that is sent, the map of keys, saved lines, and a
-//! month's length. A comparison that finds no difference, and a ledger that adds
-//! up, are worth something only if they find these.
+//! becomes of held motion that is sent, the map of keys, saved lines, a month's
+//! length, and the right button with the mouse off. A comparison that finds no
+//! difference, and a ledger that adds up, are worth something only if they find
+//! these.
 
 use crate::controller::{Answer, Refusal};
 use crate::keys::{Keys, LAST};
 use crate::limits::{HELD_LIMIT, QUEUE_ROOM};
 
+mod fire;
 mod saved;
 
+pub use fire::FireFault;
 pub use saved::SavedFault;
 
 /// What becomes of held motion that a button or a resume sends.
@@ -74,6 +77,8 @@ pub struct Rules {
     pub key_fault: Option<KeyFault>,
     /// What is wrong with saved lines, if anything is.
     pub saved_fault: Option<SavedFault>,
+    /// What is wrong with the right button with the mouse off, if anything is.
+    pub fire_fault: Option<FireFault>,
 }
 
 impl Rules {
@@ -90,6 +95,7 @@ impl Rules {
         at_resume: Sending::Once,
         key_fault: None,
         saved_fault: None,
+        fire_fault: None,
     };
 
     /// Variant `number`, wrong in one place; any other number is the documents.
@@ -108,6 +114,7 @@ impl Rules {
             10..=19 => rules.key_fault = wrong_with_keys(number),
             36 => rules.november_end = 31,
             37 => rules.may_end = 32,
+            38.. => rules.fire_fault = fire::wrong_with_the_fire_button(number),
             _ => rules.saved_fault = saved::wrong_with_saved_lines(number),
         }
         rules

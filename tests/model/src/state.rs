@@ -5,7 +5,7 @@ use crate::command::Command;
 use crate::joysticks::Joysticks;
 use crate::keys::Keys;
 use crate::limits::QUEUE_ROOM;
-use crate::mouse::Mouse;
+use crate::mouse::{Button, Mouse};
 use crate::rules::Rules;
 
 /// The index of the horizontal axis.
@@ -139,5 +139,12 @@ impl State {
     /// "Live: on, port 0 mouse, not monitoring."
     pub fn mouse_is_live(&self) -> bool {
         self.mouse.on && self.port0 == Role::Mouse && !self.joysticks.is_monitoring()
+    }
+
+    /// Request A4 amends the live rule for the right button "With the mouse off,
+    /// port 0 a mouse and no monitoring mode".
+    pub fn is_fire_button(&self, button: Button) -> bool {
+        let monitoring = self.joysticks.is_monitoring();
+        !self.mouse.on && self.rules.fires(button, self.port0, monitoring)
     }
 }

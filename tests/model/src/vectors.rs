@@ -1,11 +1,11 @@
 //! Sessions with the length of their buffer, and their expected outputs: those
 //! of the papers, resumes with every length of buffer, bad input in every mode,
-//! sentences of document 01, questions, the map of keys, saved lines, and the
-//! months.
+//! sentences of document 01, questions, the map of keys, saved lines, the months,
+//! and the right button with the mouse off.
 
 use crate::keys::{CODES, COUNT};
 use crate::limits::{BUFFER, HELD_LIMIT, QUEUE_ROOM};
-use crate::papers::{keys, lines, months, papers, questions, saved, sentences, Paper};
+use crate::papers::{fire, keys, lines, months, papers, questions, saved, sentences, Paper};
 use crate::program::{Format, Player};
 use crate::rules::Rules;
 
@@ -83,6 +83,12 @@ a common year and of a leap year, a second before midnight. Its report shows the
 month's last day and, after 100 ticks, the first day of the next month, so that no \
 length can be shorter or longer. Every report is written from the calendar.";
 
+const FIRE: &str = "\
+Request A4, the right button with the mouse off: first its readings, of which the \
+papers state the outputs of 88 and 89, and of 114 that the trigger stays set and \
+what lets it go; then its sentences and its refusals. Every other output line is \
+worked out by hand.";
+
 /// All sessions.
 pub fn groups() -> Vec<Group> {
     vec![
@@ -105,6 +111,7 @@ pub fn groups() -> Vec<Group> {
         ),
         group(SAVED, saved()),
         group(MONTHS, months()),
+        group(FIRE, fire()),
     ]
 }
 

@@ -1,6 +1,8 @@
 //! The sessions made at random are good for a comparison: they are the same for
 //! the same seed, visit everything, and show that the wrong variants are wrong.
 
+use std::sync::OnceLock;
+
 use model::coverage::Coverage;
 use model::generator::{session, session_and_kinds};
 use model::keys::COUNT;
@@ -91,12 +93,19 @@ fn every_answer_and_every_pair_of_modes_is_met() {
     }
 }
 
+/// What a long session visits, worked out once.
+fn long_coverage(format: Format) -> &'static Coverage {
+    static COVERAGES: [OnceLock<Coverage>; 2] = [OnceLock::new(), OnceLock::new()];
+    let coverage = &COVERAGES[usize::from(format == Format::Vectors)];
+    coverage.get_or_init(|| Coverage::of(&session(1, 800_000, format), format))
+}
+
 /// Every buffer that a reset may need is lent with one while keys are down: up
 /// to 0xF0 and 114 breaks, and a byte more.
 #[test]
 fn keys_and_resets_meet_in_every_way() {
     for format in [Format::Text, Format::Vectors] {
-        let keys = Coverage::of(&session(1, 800_000, format), format).keys;
+        let keys = &long_coverage(format).keys;
         assert_eq!((keys.met.len(), keys.met_with_vectors.len()), (18, 11));
         assert!(keys.met.values().all(|&count| count > 40));
         match format {
@@ -105,6 +114,30 @@ fn keys_and_resets_meet_in_every_way() {
                 assert!(keys.met_with_vectors.values().all(|&count| count > 10));
                 assert!((0..=COUNT + 2).all(|lent| keys.lent.contains(&lent)));
             }
+        }
+    }
+}
+
+/// With the mouse off the buttons come in every mode, with every action, paused
+/// and where there is no room; both joystick modes that monitor have joysticks on
+/// unless they are loaded.
+#[test]
+fn buttons_with_the_mouse_off_meet_in_every_way() {
+    for (format, least) in [(Format::Text, 15), (Format::Vectors, 10)] {
+        let fire = &long_coverage(format).fire;
+        assert_eq!((fire.met.len(), fire.met_with_vectors.len()), (30, 7));
+        for (what, &count) in &fire.met {
+            assert!(count > least, "{what}: {count}");
+        }
+        for (what, &count) in &fire.met_with_vectors {
+            assert_eq!(count > 20, format == Format::Vectors, "{what}: {count}");
+        }
+        for by_sticks in fire.modes.as_flattened() {
+            assert!(by_sticks.iter().all(|[_, on]| *on > 10));
+            let [event, interrogation, _, _, keycode] = by_sticks;
+            assert!([event, interrogation, keycode]
+                .iter()
+                .all(|[off, _]| *off > 5));
         }
     }
 }
@@ -181,11 +214,11 @@ fn questions_are_asked_where_they_show_something() {
 fn the_wrong_variants_are_seen() {
     let text = session(1, 100_000, Format::Text);
     let right = played(&text, Rules::DOCUMENT);
-    for number in (1..=15).chain([36]) {
+    for number in (1..=15).chain([36]).chain(38..=48) {
         assert!(played(&text, Rules::wrong(number)) != right, "{number}");
     }
-    // The end of a May (37) does not show here.
-    for number in (16..=35).chain([0, 37, 38]) {
+    // The end of a May (37) does not show here, and a short buffer (49) never.
+    for number in (16..=35).chain([0, 37, 49, 50]) {
         assert!(played(&text, Rules::wrong(number)) == right, "{number}");
     }
 }
@@ -196,11 +229,12 @@ fn the_wrong_variants_are_seen() {
 fn the_wrong_variants_of_the_vectors_are_seen() {
     let text = session(1, 200_000, Format::Vectors);
     let right = played_vectors(&text, Rules::DOCUMENT);
-    for number in (10..=35).filter(|number| ![27, 31].contains(number)) {
+    let shown = (10..=35).filter(|number| ![27, 31].contains(number));
+    for number in shown.chain(38..=49) {
         assert!(
             played_vectors(&text, Rules::wrong(number)) != right,
             "{number}"
         );
     }
-    assert!(played_vectors(&text, Rules::wrong(38)) == right);
+    assert!(played_vectors(&text, Rules::wrong(50)) == right);
 }

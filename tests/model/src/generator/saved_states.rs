@@ -111,7 +111,7 @@ impl Generator {
 
     /// Lines that show what a state holds.
     fn played_on(&mut self) {
-        match self.random.below(14) {
+        match self.random.below(16) {
             0 | 1 => self.event(),
             2..=4 => self.tick_run(4),
             5 => {
@@ -131,7 +131,8 @@ impl Generator {
             10 => self.motion_line(0, 0),
             11 => self.queued_event(),
             12 => self.resume(),
-            _ => self.observe(),
+            13 => self.observe(),
+            _ => self.fire_line(),
         }
     }
 
