@@ -16,7 +16,7 @@ use Rattle.protocol.specs.Replies.{in-order}
 use Rattle.mouse.specs.declared.Side.the-variants.{Right}
 use Rattle.controller.specs.declared.State.{State}
 use Rattle.controller.specs.declared.Input.{Input}
-use Rattle.controller.specs.declared.Input.the-variants.{Button}
+use Rattle.controller.specs.declared.Input.the-variants.{Byte, Button}
 use Rattle.controller.specs.State.{IsState, contents}
 use Rattle.controller.specs.Step.{Out, Did, due, step}
 use Rattle.controller.specs.Sequences.{after, history, done, resets-by}
@@ -178,4 +178,8 @@ pub switching-off-sends-nothing-calls : SwitchingOffSendsNothing-of-calls
 switching-off-sends-nothing-calls s b c h x p e =
     let f = switching-off-sends-nothing s b (length (c .before)) h x in
     let d = promised e p in
-    (λ p. wrote-nothing d (f .silent p .0) (f .silent p .1), subst (SwitchLeaves s) (sym (d .state)) (f .leaves))
+    record {
+      silent = λ p. wrote-nothing d (f .silent p .0) (f .silent p .1);
+      writes = λ taken. did-write s (Byte b) d ∙ f .writes (sym (did-answer s (Byte b) d) ∙ taken);
+      leaves = subst (SwitchLeaves s) (sym (d .state)) (f .leaves);
+    }

@@ -203,12 +203,13 @@ module _ (s : State) where
   off-refused a o n e silent = rw e (record {
     silent = λ p. absurd (n (ap number (silent p)));
     resumes = λ z. absurd (n z);
+    writes = λ z. absurd (n z);
     leaves = record { sticks = refl; right = refl; left = refl };
   })
 
   told-off : (a : Answer) (d : Due) → Switched d → (s .paused ≡ false → (a ≡ Taken) × (d .written ≡ [])) → SwitchedOff s (told a s d)
   unfolding told
-  told-off Taken d k silent = record { silent = λ p. (refl, silent p .1); resumes = λ _. k .packets; leaves = k .leaves }
+  told-off Taken d k silent = record { silent = λ p. (refl, silent p .1); resumes = λ _. k .packets; writes = λ _. k .written; leaves = k .leaves }
   told-off OutOfRange d k silent = off-refused OutOfRange _ (λ e. omega arith) refl (λ p. silent p .0)
   told-off QueueFull d k silent = off-refused QueueFull _ (λ e. omega arith) refl (λ p. silent p .0)
   told-off MotionFull d k silent = off-refused MotionFull _ (λ e. omega arith) refl (λ p. silent p .0)

@@ -34,6 +34,10 @@ port-0-a-mouse =
     ∷ gives (host (0x16 ∷ [])) (0xFD ∷ 0x00 ∷ 0x00 ∷ [])
     ∷ gives (host (0x07 ∷ 0x00 ∷ []) ++ right false) nothing
     ∷ gives (host (0x16 ∷ [])) (0xFD ∷ 0x00 ∷ 0x00 ∷ [])
+    ∷ gives (host (0x07 ∷ 0x00 ∷ []) ++ right true) nothing
+    ∷ gives (host (0x16 ∷ [])) (0xFD ∷ 0x00 ∷ 0x80 ∷ [])
+    ∷ gives (right false ++ host (0x07 ∷ 0x00 ∷ []) ++ right false) nothing
+    ∷ gives (host (0x16 ∷ [])) (0xFD ∷ 0x00 ∷ 0x80 ∷ [])
     ∷ [])
 
 -- In keycode mode the button is stick 1's key; in a monitoring mode it changes its level and no more; with joysticks off the trigger is stored. The left
@@ -46,6 +50,7 @@ key-level-and-silence =
     ∷ gives (right false) (0xF5 ∷ [])
     ∷ gives (host (0x18 ∷ []) ++ host (0x07 ∷ 0x00 ∷ []) ++ right true) nothing
     ∷ gives (host (0x14 ∷ []) ++ host (0x16 ∷ [])) (0xFD ∷ 0x00 ∷ 0x00 ∷ [])
+    ∷ gives (host (0x07 ∷ 0x00 ∷ []) ++ right true) nothing
     ∷ gives (host (0x1A ∷ []) ++ host (0x07 ∷ 0x00 ∷ []) ++ right false ++ right true) nothing
     ∷ gives (host (0x14 ∷ []) ++ host (0x16 ∷ [])) (0xFD ∷ 0x00 ∷ 0x80 ∷ [])
     ∷ [])
@@ -54,9 +59,9 @@ key-level-and-silence =
 abbrev pub refused-by-the-queue : Played
 refused-by-the-queue =
     played (
-    gives (host (0x12 ∷ []) ++ host (0x13 ∷ []) ++ times 126 (key 0x1E true) ++ right true) nothing
+    gives (host (0x12 ∷ []) ++ host (0x13 ∷ []) ++ times 125 (key 0x1E true) ++ right true) nothing
     ∷ refuses 2 (right false)
-    ∷ gives (host (0x11 ∷ [])) (replicate 126 0x1E ++ 0xFF ∷ 0x80 ∷ [])
+    ∷ gives (host (0x11 ∷ [])) (replicate 125 0x1E ++ 0xFF ∷ 0x80 ∷ [])
     ∷ gives (right false) (0xFF ∷ 0x00 ∷ [])
     ∷ [])
 
@@ -79,9 +84,9 @@ unfolding rules of-keys readings
 readings-hold = (
   ((refl, refl), ((refl, refl), ((refl, refl), ((refl, refl), ((refl, refl), ((refl, refl), ((refl, refl), tt))))))),
   (
-    ((refl, refl), ((refl, refl), ((refl, refl), ((refl, refl), ((refl, refl), ((refl, refl), tt)))))),
+    ((refl, refl), ((refl, refl), ((refl, refl), ((refl, refl), ((refl, refl), ((refl, refl), ((refl, refl), ((refl, refl), ((refl, refl), ((refl, refl), tt)))))))))),
     (
-      ((refl, refl), ((refl, refl), ((refl, refl), ((refl, refl), ((refl, refl), ((refl, refl), ((refl, refl), tt))))))),
+      ((refl, refl), ((refl, refl), ((refl, refl), ((refl, refl), ((refl, refl), ((refl, refl), ((refl, refl), ((refl, refl), tt)))))))),
       (
         ((refl, refl), ((refl, refl), ((refl, refl), ((refl, refl), tt)))),
         (((refl, refl), ((refl, refl), ((refl, refl), ((refl, refl), tt)))), tt),

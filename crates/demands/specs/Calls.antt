@@ -3,9 +3,10 @@
 use Prim.Native.Nat.{ℕ, _≤_}
 use mathlib.Core.Path.{_≡_}
 use mathlib.Core.Bool.{Bool, true, false, cond, _&&_}
-use mathlib.Core.List.{List, [], _∷_, map}
+use mathlib.Core.List.{List, [], _∷_, _++_, map}
 use lib.Dec.{eqb}
 use lib.ListN.{length, take, drop}
+use Rattle.output.specs.Packets.{bytes}
 use Rattle.output.specs.ScanCodes.{first-key, break-of}
 use Rattle.protocol.specs.declared.Inquiry.{Inquiry}
 use Rattle.protocol.specs.declared.OtherCommand.the-variants.{MouseOff}
@@ -21,6 +22,7 @@ use Rattle.controller.specs.declared.Input.{Input}
 use Rattle.controller.specs.declared.Input.the-variants.{Byte, Button}
 use Rattle.controller.specs.declared.Stepped.{Stepped}
 use Rattle.controller.specs.State.{IsState, contents, most-due}
+use Rattle.controller.specs.Host.{resumed-packets}
 use Rattle.controller.specs.Step.{number, Did, step, IsInput}
 use Rattle.controller.specs.Sequences.{Turn, AreInputs, executed-by, resets-by}
 use Rattle.demands.specs.Demand1.{ByTable}
@@ -167,7 +169,16 @@ abbrev pub OthersStaySilent-of-calls : Type 0
 OthersStaySilent-of-calls = (s : State) (side : Side) (down : Bool) (c : Call) → IsState s → live (s .settings) ≡ false → NoFire s down side →
     Promised s c → c .input ≡ Button side down → WroteNothing c × (c .result .state ≡ level-changed side down s)
 
+-- a call that executes 0x12, from the state s: as SwitchedOff
+pub record SwitchedOffBy (s : State) (c : Call) : Type 0 where
+  -- not paused it is taken, and writes nothing
+  pub silent : s .paused ≡ false → WroteNothing c
+  -- nothing is written but what waits and then what the resume sends
+  pub writes : answer-of c ≡ 0 → written-by c ≡ contents (s .queue) ++ bytes (resumed-packets s)
+  -- taken or not, no level and no trigger changes
+  pub leaves : SwitchLeaves s (c .result .state)
+
 -- A4 for calls: as SwitchingOffSendsNothing
 abbrev pub SwitchingOffSendsNothing-of-calls : Type 0
 SwitchingOffSendsNothing-of-calls = (s : State) (b : ℕ) (c : Call) → IsState s → executed-by s (Byte b) ≡ OfOther MouseOff → Promised s c → c .input ≡ Byte b →
-    (s .paused ≡ false → WroteNothing c) × SwitchLeaves s (c .result .state)
+    SwitchedOffBy s c

@@ -1,12 +1,13 @@
--- Document 02, A4, "Right button with the mouse off": "a game that switches the mouse off lost its fire button". Its sentences, each as a statement about
--- one step from any state, with a buffer of any length.
+-- Document 02, A4, "Right button with the mouse off": "a game that switches the mouse off lost its fire button". Its sentences about the
+-- buttons and about 0x12, each as a statement about one step from any state, with a buffer of any length. The amended live rule is `button` of
+-- `controller`, Events; the restore order, `in-order` of `protocol`, Replies, is as it was.
 use Prim.Native.Nat.{ℕ}
 use mathlib.Core.Path.{_≡_}
 use mathlib.Core.Bool.{Bool, true, false, cond, not}
-use mathlib.Core.List.{[]}
+use mathlib.Core.List.{[], _++_}
 use lib.Dec.{eqb}
 use lib.IntN.{pos}
-use Rattle.output.specs.Packets.{bit}
+use Rattle.output.specs.Packets.{bit, bytes}
 use Rattle.protocol.specs.declared.Role.the-variants.{ForMouse, ForJoystick}
 use Rattle.protocol.specs.declared.OtherCommand.the-variants.{MouseOff}
 use Rattle.protocol.specs.declared.Meaning.the-variants.{OfOther}
@@ -18,7 +19,7 @@ use Rattle.mouse.specs.Buttons.{with-level}
 use Rattle.controller.specs.declared.State.{State}
 use Rattle.controller.specs.declared.Input.{Input}
 use Rattle.controller.specs.declared.Input.the-variants.{Byte, Button, Joystick}
-use Rattle.controller.specs.State.{IsState}
+use Rattle.controller.specs.State.{IsState, contents}
 use Rattle.controller.specs.Host.{resumed-packets}
 use Rattle.controller.specs.Step.{Out, step}
 use Rattle.controller.specs.Sequences.{executed-by}
@@ -95,6 +96,8 @@ pub record SwitchedOff (s : State) (o : Out) : Type 0 where
   pub silent : s .paused ≡ false → (o .answer ≡ 0) × (o .written ≡ [])
   -- paused, "a command that is executed ... first resumes": nothing but that falls due
   pub resumes : o .answer ≡ 0 → o .packets ≡ resumed-packets s
+  -- and nothing is written but what waits and then what the resume sends
+  pub writes : o .answer ≡ 0 → o .written ≡ contents (s .queue) ++ bytes (resumed-packets s)
   -- taken or not, no level and no trigger changes
   pub leaves : SwitchLeaves s (o .state)
 

@@ -1,4 +1,4 @@
--- The mouse's buttons (document 01, "The mouse").
+-- The mouse's buttons (document 01, "The mouse"), and which of them gives fire (document 02, A4); what such a button sends is said in `controller`, Events.
 use Prim.Native.Nat.{ℕ, _/_, _%_}
 use mathlib.Core.Bool.{Bool, true, false, cond, not, _&&_}
 use lib.Dec.{eqb}

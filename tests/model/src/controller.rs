@@ -107,8 +107,8 @@ impl State {
                 position,
                 trigger,
             } => {
-                let byte = (128 * trigger + position) as u8;
-                self.stick_event(stick as usize, byte, lent, out)
+                let (stick, byte) = (stick as usize, (128 * trigger + position) as u8);
+                self.stick(stick, self.rules.stick_byte(self, stick, byte), lent, out)
             }
             Input::Sample(bit) => self.sample(bit as u8, lent, out),
             Input::Tick => self.tick(lent, out),
@@ -200,12 +200,6 @@ impl State {
     }
 
     /// "A stick event always stores its byte (128·trigger + position)."
-    fn stick_event(&mut self, stick: usize, byte: u8, lent: usize, out: &mut Vec<u8>) -> Answer {
-        let fires = stick == 1 && self.is_fire_button(Button::Right);
-        let pressed = fires && self.mouse.is_down(Button::Right);
-        self.stick(stick, self.rules.stick_byte(byte, pressed), lent, out)
-    }
-
     fn stick(&mut self, stick: usize, byte: u8, lent: usize, out: &mut Vec<u8>) -> Answer {
         let mut joysticks = self.joysticks;
         joysticks.stick(stick, byte, self.port0, &self.rules, out);

@@ -74,7 +74,7 @@ const SCENES: &[(u64, Scene)] = &[
     (30, Generator::stuck_keys),
     (4, Generator::no_keys),
     (70, Generator::fire_button),
-    (10, Generator::fire_at_a_full_queue),
+    (16, Generator::fire_at_a_full_queue),
 ];
 
 /// The commands, and how often each comes.
@@ -356,7 +356,7 @@ impl Generator {
         if lent + 1 >= BUFFER {
             match self.random.below(40) {
                 0 => self.longest_resume(),
-                1 => self.fire_at_a_full_queue(),
+                1 | 2 => self.fire_at_a_full_queue(),
                 _ => {}
             }
         }

@@ -73,6 +73,11 @@ impl Joysticks {
         self.leave_monitoring();
     }
 
+    /// "Event mode, joysticks on": a stick is told as it changes.
+    pub fn tells_changes(&self) -> bool {
+        self.on && self.mode == JoystickMode::Event
+    }
+
     /// "0x16 outside event and interrogation mode or with joysticks off" is
     /// ignored.
     pub fn answers_interrogation(&self) -> bool {

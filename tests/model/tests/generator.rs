@@ -125,19 +125,25 @@ fn keys_and_resets_meet_in_every_way() {
 fn buttons_with_the_mouse_off_meet_in_every_way() {
     for (format, least) in [(Format::Text, 15), (Format::Vectors, 10)] {
         let fire = &long_coverage(format).fire;
-        assert_eq!((fire.met.len(), fire.met_with_vectors.len()), (30, 7));
+        assert_eq!((fire.met.len(), fire.met_with_vectors.len()), (34, 10));
         for (what, &count) in &fire.met {
             assert!(count > least, "{what}: {count}");
         }
         for (what, &count) in &fire.met_with_vectors {
-            assert_eq!(count > 20, format == Format::Vectors, "{what}: {count}");
+            match format {
+                Format::Text => assert_eq!(count, 0, "{what}"),
+                Format::Vectors => assert!(count > 10, "{what}: {count}"),
+            }
         }
         for by_sticks in fire.modes.as_flattened() {
-            assert!(by_sticks.iter().all(|[_, on]| *on > 10));
             let [event, interrogation, _, _, keycode] = by_sticks;
-            assert!([event, interrogation, keycode]
-                .iter()
-                .all(|[off, _]| *off > 5));
+            let off = [event, interrogation, keycode].map(|[off, _]| *off);
+            let on = by_sticks.map(|[_, on]| on);
+            assert!(off.iter().all(|&count| count > 5), "{off:?}");
+            assert!(on.iter().all(|&count| count > 10), "{on:?}");
+        }
+        for left in fire.left_modes {
+            assert!(left.iter().all(|&count| count > 10), "{left:?}");
         }
     }
 }
@@ -227,7 +233,7 @@ fn the_wrong_variants_are_seen() {
 /// every month and a memory load without data are for `saved_lines`.
 #[test]
 fn the_wrong_variants_of_the_vectors_are_seen() {
-    let text = session(1, 200_000, Format::Vectors);
+    let text = session(1, 400_000, Format::Vectors);
     let right = played_vectors(&text, Rules::DOCUMENT);
     let shown = (10..=35).filter(|number| ![27, 31].contains(number));
     for number in shown.chain(38..=49) {

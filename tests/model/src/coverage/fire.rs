@@ -19,6 +19,9 @@ pub struct FireCoverage {
     /// a mouse, by mouse mode, button action, joystick mode, and joysticks off or
     /// on.
     pub modes: [[[[u64; 2]; 5]; 5]; 3],
+    /// Changes of the left button with the mouse off and port 0 a mouse, by mouse
+    /// mode and joystick mode.
+    pub left_modes: [[u64; 5]; 3],
     /// The press or release that was refused and has not come again, and the
     /// answer to it.
     refused: Option<(bool, usize)>,
@@ -34,19 +37,30 @@ impl FireCoverage {
     }
 
     pub fn count(&mut self, line: &Line) {
+        if self.loaded {
+            self.refused = None;
+        }
         match line.input {
             Some(Input::Button { button, down }) if !line.before.mouse.on => {
                 let changed = line.before.mouse.is_down(button) != down;
                 match button {
                     Button::Right if changed => self.count_right(line, down),
                     Button::Right => add(&mut self.met, &unchanged(line)),
-                    Button::Left if changed => add(&mut self.met, &left(line)),
+                    Button::Left if changed => self.count_left(line),
                     Button::Left => {}
                 }
             }
-            Some(Input::Button { .. }) => self.refused = None,
+            Some(Input::Button {
+                button: Button::Right,
+                ..
+            }) => self.refused = None,
             Some(Input::Stick { stick: 1, .. }) => add(&mut self.met, &sticks(line)),
-            Some(Input::Host(byte)) => add(&mut self.met, &commands(line, byte)),
+            Some(Input::Host(byte)) => {
+                if byte == 0x01 && line.is_reset() && line.taken() {
+                    self.refused = None;
+                }
+                add(&mut self.met, &commands(line, byte));
+            }
             _ => {}
         }
         self.loaded = line.text.starts_with(b"?\tload\t") && line.taken();
@@ -67,29 +81,49 @@ impl FireCoverage {
         }
         let again = |answer| line.taken() && refused == Some((down, answer));
         let after_2 = [("taken after a refusal with 2", again(2))];
-        let after_4 = [
+        let with_vectors = [
             ("taken after a refusal with 4", again(4)),
             ("right after a load", self.loaded),
         ];
         add(&mut self.met, &shots(line));
-        add(&mut self.met, &queued_shots(line));
+        add(&mut self.met, &queued_shots(line, down));
         add(&mut self.met, &after_2);
-        add(&mut self.met_with_vectors, &refused_for_room(line));
-        add(&mut self.met_with_vectors, &after_4);
+        add(&mut self.met_with_vectors, &shots_and_room(line, down));
+        add(&mut self.met_with_vectors, &with_vectors);
         self.refused = (!line.taken()).then_some((down, line.answer));
+    }
+
+    /// A left button whose level changes, with the mouse off.
+    fn count_left(&mut self, line: &Line) {
+        let (mode, sticks) = mode_numbers(line.before);
+        if line.before.port0 == Role::Mouse {
+            self.left_modes[mode][sticks] += 1;
+        }
+        add(&mut self.met, &left(line));
     }
 }
 
 /// "With the mouse off, port 0 a mouse and no monitoring mode"
 fn fires(state: &State) -> bool {
-    !state.mouse.on && state.port0 == Role::Mouse && !state.joysticks.is_monitoring()
+    state.is_fire_button(Button::Right)
 }
 
 /// Whether a changed stick 1 sends a packet, and whether a key.
 fn sends(state: &State) -> (bool, bool) {
-    let (on, mode) = (state.joysticks.on, state.joysticks.mode);
-    let key = matches!(mode, JoystickMode::Keycode(_));
-    (on && mode == JoystickMode::Event, on && key)
+    let joysticks = &state.joysticks;
+    let keycode = matches!(joysticks.mode, JoystickMode::Keycode(_));
+    (joysticks.tells_changes(), joysticks.on && keycode)
+}
+
+/// How many bytes of the queue are free, if output is paused.
+fn free(state: &State) -> Option<usize> {
+    let waiting = state.queue.bytes().len();
+    state.paused.then_some(QUEUE_ROOM - waiting)
+}
+
+/// Whether the line changed what is stored of the sticks.
+fn stores(line: &Line) -> bool {
+    line.before.joysticks.sticks != line.after.joysticks.sticks
 }
 
 fn trigger_is_set(state: &State) -> bool {
@@ -101,7 +135,7 @@ fn shots(line: &Line) -> [(&'static str, bool); 7] {
     let (before, taken) = (line.before, line.taken());
     let (packet, key) = sends(before);
     let joysticks = &before.joysticks;
-    let stored = joysticks.sticks != line.after.joysticks.sticks;
+    let stored = stores(line);
     let interrogation = joysticks.on && joysticks.mode == JoystickMode::Interrogation;
     let position = joysticks.sticks[1] % 16 != 0;
     let silent = taken && !stored && (packet || key);
@@ -123,15 +157,15 @@ fn shots(line: &Line) -> [(&'static str, bool); 7] {
 }
 
 /// The same while paused.
-fn queued_shots(line: &Line) -> [(&'static str, bool); 9] {
+fn queued_shots(line: &Line, down: bool) -> [(&'static str, bool); 12] {
     let [before, after] = [line.before, line.after].map(|state| state.queue.bytes().len());
     let paused = line.before.paused;
     let (packet, key) = sends(line.before);
-    let free = QUEUE_ROOM - before;
     let refused = line.answer == 2;
-    let full = paused && free == 0;
-    let fills = paused && free > 0 && after == QUEUE_ROOM;
-    let stored = line.before.joysticks.sticks != line.after.joysticks.sticks;
+    let full = free(line.before) == Some(0);
+    let one_free = free(line.before) == Some(1);
+    let fills = paused && !full && after == QUEUE_ROOM;
+    let stored = stores(line);
     [
         ("a packet queued", after == before + 2),
         ("a key queued", after == before + 1),
@@ -140,17 +174,25 @@ fn queued_shots(line: &Line) -> [(&'static str, bool); 9] {
             "a packet refused with 2, none free",
             refused && packet && full,
         ),
-        ("a packet refused with 2, one free", refused && free == 1),
+        ("a packet refused with 2, one free", refused && one_free),
         ("a packet fills the queue", fills && packet),
         ("a key refused with 2", refused && key),
         ("a key fills the queue", fills && key),
-        ("nothing to queue, none free", full && line.taken()),
+        ("stored, none free", full && stored),
+        (
+            "the trigger is so already, none free",
+            full && line.taken() && !stored,
+        ),
+        ("press refused with 2", refused && down),
+        ("release refused with 2", refused && !down),
     ]
 }
 
-fn refused_for_room(line: &Line) -> [(&'static str, bool); 5] {
+/// What only a short buffer shows.
+fn shots_and_room(line: &Line, down: bool) -> [(&'static str, bool); 8] {
     let (packet, key) = sends(line.before);
     let refused = line.answer == 4;
+    let silent = line.taken() && !line.before.paused && line.written == 0;
     let fills = line.written > 0 && line.written == line.lent;
     [
         (
@@ -164,6 +206,12 @@ fn refused_for_room(line: &Line) -> [(&'static str, bool); 5] {
         ("a key refused with 4", refused && key),
         ("a packet fills the buffer", fills && packet),
         ("a key fills the buffer", fills && key),
+        (
+            "stored, no buffer",
+            silent && stores(line) && line.lent == 0,
+        ),
+        ("press refused with 4", refused && down),
+        ("release refused with 4", refused && !down),
     ]
 }
 
@@ -191,13 +239,15 @@ fn unchanged(line: &Line) -> [(&'static str, bool); 2] {
     ]
 }
 
-fn left(line: &Line) -> [(&'static str, bool); 3] {
+fn left(line: &Line) -> [(&'static str, bool); 4] {
     let fires = fires(line.before);
+    let full = free(line.before) == Some(0);
     let (packet, key) = sends(line.before);
     [
         ("left, event mode", fires && packet),
         ("left, keycode mode", fires && key),
         ("left, paused", fires && line.before.paused),
+        ("left, none free", fires && full),
     ]
 }
 
@@ -235,6 +285,10 @@ impl fmt::Display for FireCoverage {
                 let counts = by_action.map(|by_sticks| by_sticks[place]);
                 writeln!(f, "  {mouse}, {sticks}: {counts:?}")?;
             }
+        }
+        writeln!(f, "modes: left buttons by joystick mode")?;
+        for (mouse, by_sticks) in MOUSE_MODES.iter().zip(&self.left_modes) {
+            writeln!(f, "  {mouse}: {by_sticks:?}")?;
         }
         Ok(())
     }

@@ -51,7 +51,7 @@ impl Line<'_> {
     }
 
     /// Whether a byte 0x01 ends a reset, or would if it were taken.
-    fn is_reset(&self) -> bool {
+    pub(super) fn is_reset(&self) -> bool {
         let command = &self.before.command;
         command.is_half_received() && command.code() == 0x80
     }

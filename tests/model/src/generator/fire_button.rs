@@ -7,7 +7,7 @@ impl Generator {
     /// it is switched on again.
     pub(super) fn fire_button(&mut self) {
         self.mouse_off();
-        self.fire_mode();
+        self.stick_mode();
         for _ in 0..=self.random.below(12) {
             self.shot();
         }
@@ -20,10 +20,14 @@ impl Generator {
     /// for nothing; and again after the resume, when nothing stands in the way.
     pub(super) fn fire_at_a_full_queue(&mut self) {
         self.mouse_off();
-        let sticks = self.random.pick(&[0x14, 0x14, 0x19]);
+        let sticks = self.random.pick(&[0x14, 0x14, 0x15, 0x19, 0x19]);
         self.command(sticks);
+        if self.random.one_in(5) {
+            self.host(0x1A);
+        }
         self.mouse_port();
-        self.fire_line();
+        self.right_button();
+        self.stick_1();
         self.host(0x13);
         for _ in 0..self.random.between(ROOM - 2, ROOM) {
             self.key();
@@ -34,7 +38,7 @@ impl Generator {
                 0 => self.key(),
                 1 => self.button(),
                 2 => self.stick_1(),
-                _ => self.fire_line(),
+                _ => self.right_button(),
             }
             self.question(QUEUE, 6);
         }
@@ -48,16 +52,16 @@ impl Generator {
         let mouse = self.random.pick(&[0x08, 0x09, 0x0A]);
         self.command(mouse);
         if self.random.one_in(3) {
-            self.fire_line();
+            self.right_button();
         }
         self.host(0x12);
     }
 
     /// A joystick mode, joysticks off or on, and port 0 a mouse in the end.
-    fn fire_mode(&mut self) {
+    fn stick_mode(&mut self) {
         let sticks = self
             .random
-            .pick(&[0x14, 0x14, 0x14, 0x15, 0x15, 0x19, 0x19, 0x17, 0x18]);
+            .pick(&[0x14, 0x14, 0x14, 0x15, 0x15, 0x17, 0x17, 0x18, 0x19, 0x19]);
         self.command(sticks);
         if self.random.one_in(4) {
             self.host(0x1A);
@@ -71,7 +75,8 @@ impl Generator {
         self.exactly(&[0x07, action]);
     }
 
-    pub(super) fn fire_line(&mut self) {
+    /// The right button goes down or up.
+    pub(super) fn right_button(&mut self) {
         let down = self.random.one_in(2);
         self.button_line('R', down);
     }
@@ -91,23 +96,23 @@ impl Generator {
     /// A line or a few while the mouse is off.
     fn shot(&mut self) {
         match self.random.below(20) {
-            0..=4 => self.fire_line(),
+            0..=4 => self.right_button(),
             5..=8 => self.both_ways(),
-            9 => {
+            9 | 10 => {
                 let down = self.random.one_in(2);
                 self.button_line('L', down);
             }
-            10..=12 => self.stick_1(),
-            13 => self.fire_mode(),
+            11 | 12 => self.stick_1(),
+            13 => self.stick_mode(),
             14 => {
                 // What is stored is told, and port 0 is a joystick for a while.
                 self.host(0x16);
-                self.fire_line();
+                self.right_button();
                 self.mouse_port();
             }
             15 => {
                 self.host(0x0B);
-                self.fire_line();
+                self.right_button();
                 self.exactly(&[0x01, 0x01]);
             }
             16 => self.paused_shots(),
@@ -126,7 +131,7 @@ impl Generator {
             match self.random.below(4) {
                 0 => self.key(),
                 1 => self.stick_1(),
-                _ => self.fire_line(),
+                _ => self.right_button(),
             }
         }
         self.question(QUEUE, 2);
@@ -138,7 +143,7 @@ impl Generator {
         let mouse = self.random.pick(&[0x08, 0x08, 0x09, 0x0A]);
         self.command(mouse);
         self.motion();
-        self.fire_line();
+        self.right_button();
         if self.random.one_in(2) {
             self.host(0x16);
         }

@@ -132,7 +132,7 @@ impl Generator {
             11 => self.queued_event(),
             12 => self.resume(),
             13 => self.observe(),
-            _ => self.fire_line(),
+            _ => self.right_button(),
         }
     }
 

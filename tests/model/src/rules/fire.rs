@@ -4,7 +4,7 @@ use super::Rules;
 use crate::controller::{Answer, Refusal};
 use crate::joysticks::{Joysticks, TRIGGER};
 use crate::mouse::Button;
-use crate::state::{JoystickMode, Role};
+use crate::state::{JoystickMode, Role, State};
 
 #[derive(Clone, Copy, Debug, PartialEq, Eq)]
 pub enum FireFault {
@@ -82,12 +82,15 @@ impl Rules {
         }
     }
 
-    /// The byte of a stick event; `pressed` tells that it is stick 1's and that
-    /// the button that fires is down.
-    pub fn stick_byte(&self, byte: u8, pressed: bool) -> u8 {
-        match self.fire_fault {
-            Some(FireFault::Joined) if pressed => byte | TRIGGER,
-            _ => byte,
+    /// The byte that a stick event stores: the one that came, whatever the button
+    /// that fires does.
+    pub fn stick_byte(&self, state: &State, stick: usize, byte: u8) -> u8 {
+        let fires = stick == 1 && state.is_fire_button(Button::Right);
+        let pressed = fires && state.mouse.is_down(Button::Right);
+        if pressed && self.is_wrong(FireFault::Joined) {
+            byte | TRIGGER
+        } else {
+            byte
         }
     }
 
@@ -103,8 +106,7 @@ impl Rules {
 
     /// "Switching the mouse off sends nothing": here with the right button down.
     pub fn push_at_mouse_off(&self, joysticks: &Joysticks, out: &mut Vec<u8>) {
-        let event = joysticks.on && joysticks.mode == JoystickMode::Event;
-        if event && self.is_wrong(FireFault::SentAtMouseOff) {
+        if joysticks.tells_changes() && self.is_wrong(FireFault::SentAtMouseOff) {
             out.extend_from_slice(&[0xFF, TRIGGER | joysticks.sticks[1]]);
         }
     }
