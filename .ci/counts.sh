@@ -9,7 +9,8 @@ give_up() {
 }
 
 # Every tool that the gate uses is looked for before the proofs, which take minutes.
-for tool in rt cargo rustc awk bash cat chmod cmp cp diff env grep head mkdir mktemp rm tail tee timeout tr wc; do
+for tool in rt cargo rustc awk bash cat chmod cmp cp diff env flock grep head mkdir mktemp rm rmdir sleep tail tee timeout \
+    tr wc yes; do
     command -v "$tool" >/dev/null || give_up "$tool is needed and not installed"
 done
 

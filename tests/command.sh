@@ -59,6 +59,17 @@ starts_anew "a line file with a NUL byte is answered with 5, and named" 1 "$save
 starts_anew "a line file with a NUL byte within is answered with 5, and named" 1 "1\0${saved:1}\n"
 starts_anew "a line file of 100,000 bytes is answered with 5, and named" 1 "$(printf '%0100000d' 0)\n"
 
+# What a session sends, cut into packets.
+for list in examples/*.list; do
+    timeout 60 ./ikbd "${list%.list}.txt" 2>"$room/said" | timeout 60 ./ikbd packets 2>>"$room/said" | cmp - "$list" &&
+        [ ! -s "$room/said" ]
+    count "./ikbd FILE | ./ikbd packets lists the packets, and says nothing else: $list" $?
+    "$models/model" <"${list%.list}.txt" | "$models/model_packets" | cmp - "$list"
+    count "$list, by the model" $?
+done
+(cd docs && ../ikbd packets ../examples/packets.out) | cmp - examples/packets.list
+count "./ikbd packets FILE, from another folder" $?
+
 printf -- '-\n' >"$room/line"
 ./ikbd resume "$room/line" $then.txt | head -n -1 |
     cmp - <(printf 'line\tanswer\tbytes\n0\t0\t-\n' && tail -n +2 $then.out)
@@ -67,11 +78,11 @@ count "./ikbd resume: - is power-up" $?
 for word in --help -h; do
     ./ikbd "$word" </dev/null >"$room/output" 2>"$room/said" && [ ! -s "$room/said" ] &&
         grep -qF './ikbd [FILE]' "$room/output" && grep -qF './ikbd save [FILE]' "$room/output" &&
-        grep -qF './ikbd resume LINEFILE [FILE]' "$room/output"
-    count "./ikbd $word names the three forms" $?
+        grep -qF './ikbd resume LINEFILE [FILE]' "$room/output" && grep -qF './ikbd packets [FILE]' "$room/output"
+    count "./ikbd $word names the four forms" $?
 done
 mkdir -p "$room/names"
-for word in save resume; do
+for word in save resume packets; do
     cp examples/document.txt "$room/names/$word"
     (there=$PWD && cd "$room/names" && "$there/ikbd" "./$word") | cmp - examples/document.out
     count "./ikbd ./$word plays a file of that name" $?
@@ -98,6 +109,9 @@ refuses "./ikbd resume names a line file that is not there" examples/none.line \
 refuses "./ikbd resume names a folder" examples ./ikbd resume examples examples/document.txt
 refuses "./ikbd resume names a session that is not there" examples/none.txt \
     ./ikbd resume examples/saved.line examples/none.txt
+refuses "./ikbd packets names a file that is not there" examples/none.out ./ikbd packets examples/none.out
+refuses "./ikbd packets names a folder" examples ./ikbd packets examples
+refuses "./ikbd packets takes one file" usage ./ikbd packets examples/packets.out examples/key.out
 refuses "./ikbd names rt where it is missing" "rt, the Rattle toolchain" env "PATH=$room/nowhere" "$BASH" ./ikbd
 
 # Without standard input there is no session, and nothing hangs.
@@ -107,6 +121,8 @@ timeout 60 ./ikbd save <&- | cmp - <(printf -- "$power_up")
 count "./ikbd save with standard input closed" $?
 timeout 60 ./ikbd resume examples/saved.line <&- | tail -n 1 | cmp - examples/saved.line
 count "./ikbd resume with standard input closed" $?
+timeout 60 ./ikbd packets <&- | cmp - <(printf "$listed")
+count "./ikbd packets with standard input closed" $?
 printf -- - >"$room/minus"
 timeout 60 ./ikbd resume "$room/minus" examples/key.txt >"$room/output" &&
     cmp <(head -n 2 "$room/output") <(printf "${header}0\t0\t-\n")
@@ -130,6 +146,29 @@ stand_in "echo 'rt: saved proved (1 s)'; mkdir -p target/bin && cp '$PWD/target/
 PATH=$room/stand-in:$PATH "$room/ikbd" save examples/saved-first.txt 2>"$room/said" | cmp - examples/saved.line &&
     [[ $(head -n 1 "$room/said") == *"5 minutes"* ]] && grep -q "saved proved (1 s)" "$room/said"
 count "./ikbd save says at first how long it takes, and names each crate when it is proved" $?
+stand_in "echo 'rt: listing proved (1 s)'; mkdir -p target/bin && cp '$PWD/target/bin/packets' target/bin"
+PATH=$room/stand-in:$PATH "$room/ikbd" packets examples/packets.out 2>"$room/said" | cmp - examples/packets.list &&
+    [[ $(head -n 1 "$room/said") == *"4 minutes"* ]] && grep -q "listing proved (1 s)" "$room/said"
+count "./ikbd packets says at first how long it takes, and names each crate when it is proved" $?
+# Two calls at once, where both programs have to be proved: a second proof that begins before the first has ended is
+# written down.
+mkdir -p "$room/two"
+cp ikbd "$room/two/ikbd"
+stand_in "mkdir target/busy 2>/dev/null || : >target/both
+[ -e target/bin ] || sleep 6
+mkdir -p target/bin && cp '$PWD/target/bin/'\"\$2\" target/bin; rmdir target/busy"
+# The first proof takes longer than a call waits in silence; and more is sent than a pipe holds, so that the first program
+# cannot end before the second reads.
+for ((turn = 0; turn < 20000; turn++)); do printf 'K\t1E\t1\n'; done >"$room/keys"
+: >"$room/said"
+two_at_once() {
+    local PATH=$room/stand-in:$PATH
+    timeout 60 "$room/two/ikbd" "$room/keys" 2>>"$room/said" | timeout 60 "$room/two/ikbd" packets 2>>"$room/said" |
+        cmp - <(printf 'packet\tbytes\n' && yes $'make\t1E' | head -n 20000)
+}
+two_at_once && [ ! -e "$room/two/target/both" ] && [ ! -e "$room/two/target/busy" ] &&
+    grep -q "another call is proving" "$room/said"
+count "./ikbd FILE | ./ikbd packets where both have to be proved: one after the other" $?
 # A program that does not come to its end: an answer is no saved line.
 stand_in ':'
 saves_nothing() { # NAME, what the program does

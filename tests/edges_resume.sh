@@ -59,7 +59,7 @@ count "resume: a first line that ends at and about the end of a block" $status
 status=0
 for first in '-\n' "$power_up" "$key_down" '\n'; do
     printf -- "$first" >"$room/first"
-    { cat "$room/first" && straddling "$(wc -c <"$room/first")"; } >"$room/straddling"
+    { cat "$room/first" && straddling "$(wc -c <"$room/first")" "${kinds[@]}"; } >"$room/straddling"
     as_model_resumes "$room/straddling" || status=1
 done
 count "resume: lines that lie across the end of a 64 KiB block at every offset" $status

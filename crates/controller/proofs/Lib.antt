@@ -5,6 +5,7 @@ pub mod States
 pub mod Lengths
 pub mod Examples
 pub mod Answers
+pub mod Framed
 pub mod Results
 pub mod Tells
 pub mod Hosts

@@ -20,7 +20,8 @@ use Rattle.protocol.specs.Commands.{executed}
 use Rattle.protocol.specs.Replies.{code-of, reply, kept-bytes}
 use Rattle.protocol.proofs.Core.{Core}
 use Rattle.protocol.proofs.Segments.{feed-between}
-use Rattle.protocol.proofs.PutBack.{known, asks, fed-alone, quiet, reply-length}
+use Rattle.protocol.proofs.PutBack.{known, asks, fed-alone, quiet}
+use Rattle.protocol.proofs.Replies.{reply-length}
 use Rattle.controller.specs.declared.State.{State}
 use Rattle.controller.specs.declared.Input.{Input}
 use Rattle.controller.specs.declared.Input.the-variants.{Byte}

@@ -1,5 +1,5 @@
--- The demands, that no motion is lost or doubled, which keys are down, and the right button with the mouse off, over calls of the step in code, each known
--- by its promise alone: calls come to what the definition says.
+-- The demands, that no motion is lost or doubled, which keys are down, the right button with the mouse off, and cutting the joined output, over calls of the
+-- step in code, each known by its promise alone: calls come to what the definition says.
 -- Assumes nothing.
 use Prim.Native.Nat.{ℕ}
 use native.Mathlib.Omega.{arith}
@@ -17,7 +17,7 @@ use Rattle.mouse.specs.declared.Side.the-variants.{Right}
 use Rattle.controller.specs.declared.State.{State}
 use Rattle.controller.specs.declared.Input.{Input}
 use Rattle.controller.specs.declared.Input.the-variants.{Byte, Button}
-use Rattle.controller.specs.State.{IsState, contents}
+use Rattle.controller.specs.State.{IsState, power-up, contents}
 use Rattle.controller.specs.Step.{Out, Did, due, step}
 use Rattle.controller.specs.Sequences.{after, history, done, resets-by}
 use Rattle.controller.proofs.Answers.{step-fits, did-answer, did-write}
@@ -29,13 +29,15 @@ use Rattle.demands.specs.Demand3.{Seen, seen, seen-in, Asking, SendingBa
 use Rattle.demands.specs.Conservation.{Arrival, arrival, arrivals-in, AllUndisturbed}
 use Rattle.demands.specs.StuckKeys.{down-keys}
 use Rattle.demands.specs.FireButton.{stick-1, level-after, SwitchLeaves}
-use Rattle.demands.specs.Calls.{Call, Promised, Calls, answer-of, turn-of, flow-of, flows-of, seen-of, arrival-of, arrivals-of, Demand1-of-calls, Demand2-of-calls, Demand2-whole-of-calls, Demand3-of-calls, Conservation-of-calls, NoneDropped-of-calls, MapIsTrue-of-calls, ResetNames-of-calls, WroteNothing, RightButtonFires-of-calls, OthersStaySilent-of-calls, SwitchingOffSendsNothing-of-calls}
+use Rattle.demands.specs.Cutting.{NeverMonitored}
+use Rattle.demands.specs.Calls.{Call, Promised, Calls, answer-of, turn-of, flow-of, flows-of, seen-of, arrival-of, arrivals-of, Demand1-of-calls, Demand2-of-calls, Demand2-whole-of-calls, Demand3-of-calls, Conservation-of-calls, NoneDropped-of-calls, MapIsTrue-of-calls, ResetNames-of-calls, WroteNothing, RightButtonFires-of-calls, OthersStaySilent-of-calls, SwitchingOffSendsNothing-of-calls, Cutting-of-calls}
 use Rattle.demands.proofs.Demand1.{demand-1}
 use Rattle.demands.proofs.Demand2.{demand-2, demand-2-whole}
 use Rattle.demands.proofs.PutBack.{put-back}
 use Rattle.demands.proofs.Conservation.{conservation, none-dropped}
 use Rattle.demands.proofs.StuckKeys.{map-is-true, reset-names}
 use Rattle.demands.proofs.FireButton.{right-button-fires, others-stay-silent, switching-off-sends-nothing}
+use Rattle.demands.proofs.Cutting.{cutting}
 
 -- a call, as a step of a sequence
 module _ (s : State) (c : Call) (p : Promised s c) where
@@ -183,3 +185,9 @@ switching-off-sends-nothing-calls s b c h x p e =
       writes = λ taken. did-write s (Byte b) d ∙ f .writes (sym (did-answer s (Byte b) d) ∙ taken);
       leaves = subst (SwitchLeaves s) (sym (d .state)) (f .leaves);
     }
+
+-- A5, for calls of the step in code
+pub cutting-calls : Cutting-of-calls
+cutting-calls t cs x k n =
+    let r = ran power-up t cs k in
+    rw (r .flows-then, r .state-then) (cutting (map turn-of cs) x (subst NeverMonitored (r .arrivals-then) n))

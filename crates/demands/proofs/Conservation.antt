@@ -11,22 +11,18 @@ use Rattle.output.proofs.Cases.{both-ways}
 use Rattle.motion.specs.Motion.{value}
 use Rattle.clock.specs.declared.Clock.{Clock}
 use Rattle.clock.specs.Setting.{report}
-use Rattle.protocol.specs.declared.MouseMode.{MouseMode}
-use Rattle.protocol.specs.declared.MouseMode.the-variants.{Relative, Absolute, Keycode}
+use Rattle.protocol.specs.declared.MouseMode.the-variants.{Relative}
 use Rattle.protocol.specs.declared.StickMode.{StickMode}
-use Rattle.protocol.specs.declared.StickMode.the-variants.{Event, Interrogation, Monitoring, Fire, StickKeycode}
 use Rattle.protocol.specs.declared.Settings.{Settings}
 use Rattle.protocol.specs.declared.Meaning.{Meaning}
 use Rattle.protocol.specs.declared.Meaning.the-variants.{Nothing, Memory, Pause, Reset, OfMouse, OfStick, OfOther, Inquire}
 use Rattle.protocol.specs.declared.OtherCommand.{OtherCommand}
 use Rattle.protocol.specs.declared.OtherCommand.the-variants.{Resume, MouseOff, SetClock, ReportClock}
-use Rattle.protocol.specs.declared.Inquiry.{Inquiry}
-use Rattle.protocol.specs.declared.Inquiry.the-variants.{AskAction, AskMouse, AskThreshold, AskScale, AskOrigin, AskMouseOff, AskStick, AskSticksOff}
 use Rattle.protocol.specs.Codes.{meaning-of}
 use Rattle.protocol.specs.Settings.{monitors}
 use Rattle.protocol.specs.Reading.{Fed, half, whole, feed}
 use Rattle.protocol.specs.Commands.{executed}
-use Rattle.protocol.specs.Replies.{reply, mouse-reply, stick-reply}
+use Rattle.protocol.proofs.Replies.{of-reply}
 use Rattle.mouse.specs.declared.Mouse.{Mouse}
 use Rattle.mouse.specs.declared.Side.{Side}
 use Rattle.mouse.specs.Mouse.{live}
@@ -57,16 +53,19 @@ module _ (a : Axis) where
   record Mute (n : ℕ) (ps : List Packet) : Type 0 where
     none : said a ps ≡ pos 0
 
-  sticks-mute : OfEach Mute
-  sticks-mute = record {
+  sticks-mute : (mode : StickMode) → OfEach mode Mute
+  sticks-mute mode = record {
     none = λ n. record { none = refl };
     joined = λ m n ps qs p q. record { none = said-append a ps qs ∙ ap₂ _+ℤ_ (p .none) (q .none) };
-    scan = λ code. record { none = refl };
-    stick = λ which b. record { none = refl };
-    monitor = λ triggers positions. record { none = refl };
-    samples = λ b. record { none = refl };
+    scan = λ code h. record { none = refl };
+    stick = λ one b. record { none = refl };
+    monitor = λ triggers positions h. record { none = refl };
+    samples = λ b h. record { none = refl };
     sticks = λ b0 b1. record { none = refl };
   }
+
+  none-mute : Mute 0 []
+  none-mute = record { none = refl }
 
   of-one : {p : Packet} → says a p ≡ pos 0 → Mute 0 (p ∷ [])
   of-one e = record { none = ap (λ (z : ℤ). z +ℤ pos 0) e }
@@ -99,7 +98,7 @@ module _ (a : Axis) where
   stays m e = adds-nothing (ap (λ (z : ℤ). z +ℤ value (along a (m .held))) (e .none) ∙ +ℤ-idl (value (along a (m .held))))
 
   nothing-due : (m : Mouse) → Adds m (pos 0) [] m
-  nothing-due m = stays m (sticks-mute .none 0)
+  nothing-due m = stays m none-mute
 
   other-adds : (c : OtherCommand) (ps : List ℕ) (m : Mouse) (k : Sticks) (t : Clock) → (c ≡ MouseOff → ⊥) →
       Adds m (pos 0) (other-effect c ps m k t .packets) (other-effect c ps m k t .mouse)
@@ -108,29 +107,6 @@ module _ (a : Axis) where
   other-adds MouseOff ps m k t h = absurd (h refl)
   other-adds SetClock ps m k t h = nothing-due m
   other-adds ReportClock ps m k t h = stays m (of-one refl)
-
-  mouse-reply-mute : (m : MouseMode) → says a (mouse-reply m) ≡ pos 0
-  mouse-reply-mute Relative = refl
-  mouse-reply-mute (Absolute p) = refl
-  mouse-reply-mute (Keycode d) = refl
-
-  stick-reply-mute : (m : StickMode) → says a (stick-reply m) ≡ pos 0
-  stick-reply-mute Event = refl
-  stick-reply-mute Interrogation = refl
-  stick-reply-mute (Monitoring rate) = refl
-  stick-reply-mute Fire = refl
-  stick-reply-mute (StickKeycode x y) = refl
-
-  reply-mute : (q : Inquiry) (σ : Settings) → says a (reply q σ) ≡ pos 0
-  unfolding reply
-  reply-mute AskAction σ = refl
-  reply-mute AskMouse σ = mouse-reply-mute (σ .mouse)
-  reply-mute AskThreshold σ = refl
-  reply-mute AskScale σ = refl
-  reply-mute AskOrigin σ = refl
-  reply-mute AskMouseOff σ = refl
-  reply-mute AskStick σ = stick-reply-mute (σ .stick)
-  reply-mute AskSticksOff σ = refl
 
   -- a command itself, once output is resumed
   effect-adds : (c : Meaning) (ps : List ℕ) (σ : Settings) (m : Mouse) (k : Sticks) (t : Clock) → Spared c →
@@ -143,9 +119,9 @@ module _ (a : Axis) where
   effect-adds (OfMouse c) ps σ m k t h =
       adds-nothing
       (commanded-conserve a c ps (σ .mouse) m (λ e. h .no-relative (ap OfMouse e)) (λ e. h .no-absolute (ap OfMouse e)) (λ e. h .no-keycode (ap OfMouse e)))
-  effect-adds (OfStick c) ps σ m k t h = stays m (of-commanded Mute sticks-mute c (σ .stick) k)
+  effect-adds (OfStick c) ps σ m k t h = stays m (of-commanded Mute (σ .stick) (sticks-mute (σ .stick)) c k)
   effect-adds (OfOther c) ps σ m k t h = other-adds c ps m k t (λ e. h .no-mouse-off (ap OfOther e))
-  effect-adds (Inquire q) ps σ m k t h = stays m (of-one (reply-mute q σ))
+  effect-adds (Inquire q) ps σ m k t h = stays m (of-one (of-reply (λ (p : Packet). says a p ≡ pos 0) (λ b c d e f g h. refl) q σ))
 
   -- a resume, if there is one, and then the command
   acted-adds : (c : Meaning) (ps : List ℕ) (s : State) → s .settings .mouse ≡ Relative → Spared c →
@@ -195,7 +171,7 @@ module _ (a : Axis) where
   unfolding button
   button-adds σ side down m k t =
       both-ways (λ (e : Effect). Adds m (pos 0) (e .packets) (e .mouse)) (gives-fire σ side down m)
-      (λ _. record { account = rw (level-held side down m) (stays m (of-stick-moved Mute sticks-mute σ true _ k) .account) })
+      (λ _. record { account = rw (level-held side down m) (stays m (of-stick-moved Mute σ (sticks-mute (σ .stick)) true _ k) .account) })
       (λ _. adds-nothing (presses-conserve a σ side down m))
 
   -- any input, if it is taken
@@ -204,12 +180,12 @@ module _ (a : Axis) where
   unfolding due event-due happened event brought-by key-packets
   due-adds s (Byte b) r h = host-adds (feed (s .command) b) s r h
   due-adds s (Key code down) r h =
-      stays (s .mouse) (both-ways (Mute 1) (monitors (s .settings .stick)) (λ _. sticks-mute .none 1) (λ _. sticks-mute .scan _))
+      stays (s .mouse) (both-ways (Mute 0) (monitors (s .settings .stick)) (λ _. none-mute) (λ _. of-one refl))
   due-adds s (Button side down) r h = button-adds (s .settings) side down (s .mouse) (s .sticks) (s .clock)
   due-adds s (Move dx dy) r h = move-adds (s .paused) (s .settings) dx dy (s .mouse) r
-  due-adds s (Joystick stick position trigger) r h = stays (s .mouse) (of-stick-moved Mute sticks-mute (s .settings) _ _ (s .sticks))
-  due-adds s (Sample b) r h = stays (s .mouse) (of-sampled Mute sticks-mute (s .paused) (s .settings) (natAbs b) (s .sticks))
-  due-adds s Tick r h = stays (s .mouse) (of-ticked Mute sticks-mute (s .paused) (s .settings) (s .sticks))
+  due-adds s (Joystick stick position trigger) r h = stays (s .mouse) (of-stick-moved Mute (s .settings) (sticks-mute (s .settings .stick)) _ _ (s .sticks))
+  due-adds s (Sample b) r h = stays (s .mouse) (of-sampled Mute (s .settings) (sticks-mute (s .settings .stick)) (s .paused) (natAbs b) (s .sticks))
+  due-adds s Tick r h = stays (s .mouse) (of-ticked Mute (s .settings) (sticks-mute (s .settings .stick)) (s .paused) (s .sticks))
 
   told-adds : (w : Answer) (s : State) (d : Due) (z : ℤ) → told w s d .answer ≡ 0 → Adds (s .mouse) z (d .packets) (d .state .mouse) →
       Adds (s .mouse) z (told w s d .packets) (told w s d .state .mouse)

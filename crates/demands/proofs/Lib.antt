@@ -7,6 +7,7 @@ pub mod PutBack
 pub mod Conservation
 pub mod StuckKeys
 pub mod FireButton
+pub mod Cutting
 pub mod Calls
 pub mod Witness3
 pub mod Rules
@@ -16,5 +17,6 @@ pub mod MotionWitness
 pub mod Readings
 pub mod KeyReadings
 pub mod FireReadings
+pub mod CuttingReadings
 pub mod Idling
 pub mod ShutOut

@@ -1,5 +1,5 @@
--- The three demands, that no motion is lost or doubled, which keys are down, and the right button with the mouse off, over calls of the step in code, each
--- known by its promise alone. Answer, bytes and state are read off what a call handed back; what fell due is the definition's.
+-- The three demands, that no motion is lost or doubled, which keys are down, the right button with the mouse off, and cutting the joined output, over calls
+-- of the step in code, each known by its promise alone. Answer, bytes and state are read off what a call handed back; what fell due is the definition's.
 use Prim.Native.Nat.{ℕ, _≤_}
 use mathlib.Core.Path.{_≡_}
 use mathlib.Core.Bool.{Bool, true, false, cond, _&&_}
@@ -21,7 +21,7 @@ use Rattle.controller.specs.declared.State.{State}
 use Rattle.controller.specs.declared.Input.{Input}
 use Rattle.controller.specs.declared.Input.the-variants.{Byte, Button}
 use Rattle.controller.specs.declared.Stepped.{Stepped}
-use Rattle.controller.specs.State.{IsState, contents, most-due}
+use Rattle.controller.specs.State.{IsState, power-up, contents, most-due}
 use Rattle.controller.specs.Host.{resumed-packets}
 use Rattle.controller.specs.Step.{number, Did, step, IsInput}
 use Rattle.controller.specs.Sequences.{Turn, AreInputs, executed-by, resets-by}
@@ -31,6 +31,7 @@ use Rattle.demands.specs.Demand3.{Seen, Asking, SendingBack}
 use Rattle.demands.specs.Conservation.{Arrival, AllUndisturbed, Conserved}
 use Rattle.demands.specs.StuckKeys.{down-after, down-keys}
 use Rattle.demands.specs.FireButton.{GivesFire, stick-1, level-after, level-changed, NoFire, SwitchLeaves}
+use Rattle.demands.specs.Cutting.{NeverMonitored, CutsBack}
 
 -- one call: the input, the lent buffer before it, what it handed back, and the buffer after it
 pub record Call : Type 0 where
@@ -182,3 +183,7 @@ pub record SwitchedOffBy (s : State) (c : Call) : Type 0 where
 abbrev pub SwitchingOffSendsNothing-of-calls : Type 0
 SwitchingOffSendsNothing-of-calls = (s : State) (b : ℕ) (c : Call) → IsState s → executed-by s (Byte b) ≡ OfOther MouseOff → Promised s c → c .input ≡ Byte b →
     SwitchedOffBy s c
+
+-- A5 for calls: as Cutting
+abbrev pub Cutting-of-calls : Type 0
+Cutting-of-calls = (t : State) (cs : List Call) → AreCalls cs → Calls power-up cs t → NeverMonitored (arrivals-of power-up cs) → CutsBack (flows-of power-up cs) t

@@ -5,6 +5,7 @@ pub mod Demand3
 pub mod Conservation
 pub mod StuckKeys
 pub mod FireButton
+pub mod Cutting
 pub mod Calls
 pub mod Sessions
 pub mod ShutOut

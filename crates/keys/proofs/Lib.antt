@@ -1,4 +1,5 @@
 pub mod Words
 pub mod Maps
+pub mod Framed
 pub mod Writing
 pub mod Examples

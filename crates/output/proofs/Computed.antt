@@ -29,3 +29,14 @@ passes-at test i zero h k low high = absurd (omega arith)
 passes-at test i (suc n) h k low high =
     first-or-later (λ (j : ℕ). test j ≡ true) i k low (and-true (test i) (passes test (suc i) n) h .0)
     (λ l. passes-at test (suc i) n (and-true (test i) (passes test (suc i) n) h .1) k l (omega arith))
+
+-- n numbers from i on come to one value: each `refl`, where the function computes
+abbrev pub Alike : {A : Type 0} → (ℕ → A) → A → ℕ → ℕ → Type 0
+Alike f x i zero = Unit {0}
+Alike f x i (suc n) = (x ≡ f i) × Alike f x (suc i) n
+
+-- Then so does any one of them: for a function whose values cannot be tested by a Bool.
+pub all-alike : {A : Type 0} (f : ℕ → A) (x : A) (i n : ℕ) → Alike f x i n → (k : ℕ) → i ≤ k → k < i + n → x ≡ f k
+all-alike f x i zero h k low high = absurd (omega arith)
+all-alike f x i (suc n) h k low high =
+    first-or-later (λ (j : ℕ). x ≡ f j) i k low (h .0) (λ l. all-alike f x (suc i) n (h .1) k l (omega arith))

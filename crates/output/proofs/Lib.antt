@@ -3,3 +3,4 @@ pub mod Packets
 pub mod Writing
 pub mod Runs
 pub mod Computed
+pub mod Framed

@@ -1,6 +1,7 @@
 -- Scan codes: the keys, the arrows that stand for motion, and the codes of buttons and triggers (document 01, "The mouse").
-use Prim.Native.Nat.{ℕ, _+_}
-use mathlib.Core.Bool.{Bool, cond}
+use Prim.Native.Nat.{ℕ, _+_, _-_}
+use mathlib.Core.Bool.{Bool, cond, _&&_, _||_}
+use lib.Dec.{eqb, leb}
 
 -- the first of "code 1 to 0x72"
 abbrev pub first-key : ℕ
@@ -41,3 +42,11 @@ key-left = 0x74
 -- the right button as a key, "0x75 right", and the trigger of "0x75 for stick 1"
 abbrev pub key-right : ℕ
 key-right = 0x75
+
+-- A5: "1 to 0x72, 0x74, 0x75": what can come as a make, of a key, or of a button or a trigger that is a key
+unfoldable pub is-make : ℕ → Bool
+is-make code = (leb first-key code && leb code last-key) || (eqb code key-left || eqb code key-right)
+
+-- A5: "the breaks of all these"; below 0x80 the difference is 0, which is no make
+unfoldable pub is-break : ℕ → Bool
+is-break code = is-make (code - 0x80)

@@ -4,3 +4,5 @@ pub mod Table
 pub mod Core
 pub mod Segments
 pub mod PutBack
+pub mod Replies
+pub mod Monitoring

@@ -6,13 +6,8 @@ use mathlib.Core.Path.{_≡_, refl, sym, ap, _∙_, subst}
 use mathlib.Core.Bool.{Bool, true, false, cond, not, true≢false}
 use mathlib.Core.List.{List, [], _∷_, List·Memᴰ, List·Memᴰ·head, List·Memᴰ·tail}
 use lib.Dec.{eqb}
-use lib.ListN.{length}
 use borrow.Author.Tests.{eqb-true}
-use Rattle.output.specs.Packets.{bytes-of}
 use Rattle.protocol.specs.declared.StickMode.{StickMode}
-use Rattle.protocol.specs.declared.StickMode.the-variants.{Event, Interrogation, Monitoring, Fire, StickKeycode}
-use Rattle.protocol.specs.declared.MouseMode.{MouseMode}
-use Rattle.protocol.specs.declared.MouseMode.the-variants.{Relative, Absolute, Keycode}
 use Rattle.protocol.specs.declared.Role.{Role}
 use Rattle.protocol.specs.declared.Role.the-variants.{ForMouse, ForJoystick}
 use Rattle.protocol.specs.declared.Settings.{Settings}
@@ -24,7 +19,7 @@ use Rattle.protocol.specs.Codes.{entry, table, find, line, parameters-of
 use Rattle.protocol.specs.Reading.{zeros, no-command, Between, whole, begin, feed, command-after}
 use Rattle.protocol.specs.Settings.{most-action, monitors}
 use Rattle.protocol.specs.Commands.{executed, leave-monitoring, settings-of, with-action, with-threshold, with-scale, with-origin, with-mouse, without-mouse, with-stick, without-sticks, with-role, sets, settings-then, settings-after}
-use Rattle.protocol.specs.Replies.{code-of, mouse-reply, stick-reply, reply, kept-bytes, in-order}
+use Rattle.protocol.specs.Replies.{code-of, kept-bytes, in-order}
 use Rattle.protocol.proofs.Reading.{every, find-passes}
 use Rattle.protocol.proofs.Core.{Core, eat, eats, eats-append}
 use Rattle.protocol.proofs.Segments.{at-rest, eat-between, restored, segment}
@@ -155,27 +150,3 @@ quiet c (b ∷ bs) h only =
     let e : eat c b ≡ at-rest (c .settings) = eat-between c b h ∙ still b (c .settings) (only b (List·Memᴰ·head refl)) in
     subst (λ (d : Core). (eats d bs .settings ≡ c .settings) × Between (eats d bs .command)) (sym e)
     (quiet (at-rest (c .settings)) bs refl (λ x m. only x (List·Memᴰ·tail m)))
-
-mouse-reply-length : (m : MouseMode) → length (bytes-of (mouse-reply m)) ≡ 8
-mouse-reply-length Relative = refl
-mouse-reply-length (Absolute p) = refl
-mouse-reply-length (Keycode d) = refl
-
-stick-reply-length : (m : StickMode) → length (bytes-of (stick-reply m)) ≡ 8
-stick-reply-length Event = refl
-stick-reply-length Interrogation = refl
-stick-reply-length (Monitoring rate) = refl
-stick-reply-length Fire = refl
-stick-reply-length (StickKeycode x y) = refl
-
--- a reply is 8 bytes long
-pub reply-length : (q : Inquiry) (σ : Settings) → length (bytes-of (reply q σ)) ≡ 8
-unfolding reply
-reply-length AskAction σ = refl
-reply-length AskMouse σ = mouse-reply-length (σ .mouse)
-reply-length AskThreshold σ = refl
-reply-length AskScale σ = refl
-reply-length AskOrigin σ = refl
-reply-length AskMouseOff σ = refl
-reply-length AskStick σ = stick-reply-length (σ .stick)
-reply-length AskSticksOff σ = refl

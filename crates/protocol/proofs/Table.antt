@@ -10,7 +10,7 @@ use mathlib.Core.List.{List, [], _∷_}
 use lib.Dec.{eqb}
 use lib.ListN.{getD}
 use borrow.Author.Tests.{eqb-true, ne-eqb}
-use Rattle.output.proofs.Computed.{first-or-later, passes, passes-at}
+use Rattle.output.proofs.Computed.{passes, passes-at}
 use Rattle.protocol.specs.declared.Meaning.{Meaning}
 use Rattle.protocol.specs.declared.Meaning.the-variants.{Nothing, Memory, Pause, Reset, OfMouse, OfStick, OfOther, Inquire}
 use Rattle.protocol.specs.Codes.{table, find, line, parameters-of, meaning-of}
@@ -70,16 +70,6 @@ pub all-unused : (but i n : ℕ) → passes (unused but) i n ≡ true → (code 
 unfolding unused
 all-unused but i n h code low high other =
     nothing-is (meaning-of code) (rw (ne-eqb code but other) at (passes-at (unused but) i n h code low high))
-
--- n codes from i on have one meaning
-abbrev pub Alike : Meaning → ℕ → ℕ → Type 0
-Alike m i zero = Unit {0}
-Alike m i (suc n) = (m ≡ meaning-of i) × Alike m (suc i) n
-
-pub all-alike : (m : Meaning) (i n : ℕ) → Alike m i n → (code : ℕ) → i ≤ code → code < i + n → m ≡ meaning-of code
-all-alike m i zero h code low high = absurd (omega arith)
-all-alike m i (suc n) h code low high =
-    first-or-later (λ (j : ℕ). m ≡ meaning-of j) i code low (h .0) (λ l. all-alike m (suc i) n (h .1) code l (omega arith))
 
 -- none of n numbers from i on: what is left when a match has an arm for each
 abbrev pub NoneOf : ℕ → ℕ → ℕ → Type 0

@@ -25,29 +25,29 @@ record AtMost (n : ℕ) (ps : List Packet) : Type 0 where
 append-length : (m n : ℕ) (ps qs : List Packet) → AtMost m ps → AtMost n qs → AtMost (m + n) (ps ++ qs)
 append-length m n ps qs p q = record { length-most = simp (bytes-append, length-append) (omega arith) }
 
-lengths : OfEach AtMost
-lengths = record {
+lengths : (mode : StickMode) → OfEach mode AtMost
+lengths mode = record {
   none = λ n. omega arith;
   joined = append-length;
-  scan = λ code. omega arith;
-  stick = λ which b. omega arith;
-  monitor = λ triggers positions. omega arith;
-  samples = λ b. omega arith;
+  scan = λ code h. omega arith;
+  stick = λ one b. omega arith;
+  monitor = λ triggers positions h. omega arith;
+  samples = λ b h. omega arith;
   sticks = λ b0 b1. omega arith;
 }
 
 -- a stick event sends at most two pairs and a key
 pub stick-moved-length : (σ : Settings) (one : Bool) (new : Stick) (s : Sticks) → length (bytes (stick-moved σ one new s .packets)) ≤ 5
-stick-moved-length σ one new s = of-stick-moved AtMost lengths σ one new s .length-most
+stick-moved-length σ one new s = of-stick-moved AtMost σ (lengths (σ .stick)) one new s .length-most
 
 -- a tick sends at most two pairs
 pub ticked-length : (paused : Bool) (σ : Settings) (s : Sticks) → length (bytes (ticked paused σ s .packets)) ≤ 4
-ticked-length paused σ s = of-ticked AtMost lengths paused σ s .length-most
+ticked-length paused σ s = of-ticked AtMost σ (lengths (σ .stick)) paused s .length-most
 
 -- a fire sample sends at most a byte
 pub sampled-length : (paused : Bool) (σ : Settings) (b : ℕ) (s : Sticks) → length (bytes (sampled paused σ b s .packets)) ≤ 1
-sampled-length paused σ b s = of-sampled AtMost lengths paused σ b s .length-most
+sampled-length paused σ b s = of-sampled AtMost σ (lengths (σ .stick)) paused b s .length-most
 
 -- a command of the joysticks sends at most both sticks
 pub commanded-length : (c : StickCommand) (mode : StickMode) (s : Sticks) → length (bytes (commanded c mode s .packets)) ≤ 3
-commanded-length c mode s = of-commanded AtMost lengths c mode s .length-most
+commanded-length c mode s = of-commanded AtMost mode (lengths mode) c s .length-most

@@ -3,6 +3,7 @@ pub mod States
 pub mod Laws
 pub mod Lengths
 pub mod Codes
+pub mod Framed
 pub mod Steering
 pub mod Arms
 pub mod Examples

@@ -3,6 +3,10 @@
 use std::io::{Read, Write};
 use std::process::{exit, Command, Stdio};
 
+/// A pipe holds that much on every system, so that a writer need not wait for its
+/// reader.
+const HELD_BY_A_PIPE: usize = 4096;
+
 /// Runs a program, with words after its name as its arguments.
 pub fn output_of(program: &str, input: &[u8]) -> Vec<u8> {
     let mut words = program.split_whitespace();
@@ -19,7 +23,12 @@ pub fn output_of(program: &str, input: &[u8]) -> Vec<u8> {
     let mut output = Vec::new();
     std::thread::scope(|scope| {
         // A program that ends early is seen by what its output lacks.
-        scope.spawn(|| stdin.map(|mut pipe| pipe.write_all(input)));
+        let feed = || stdin.map(|mut pipe| pipe.write_all(input));
+        if input.len() > HELD_BY_A_PIPE {
+            scope.spawn(feed);
+        } else {
+            feed();
+        }
         let _ = stdout.map(|mut pipe| pipe.read_to_end(&mut output));
     });
     // How a program ended is part of what it gave.

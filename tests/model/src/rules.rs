@@ -1,17 +1,19 @@
 //! What a deliberately wrong variant changes: numbers of document 01, what
 //! becomes of held motion that is sent, the map of keys, saved lines, a month's
-//! length, and the right button with the mouse off. A comparison that finds no
-//! difference, and a ledger that adds up, are worth something only if they find
-//! these.
+//! length, the right button with the mouse off, and the packets that the host
+//! reads. A comparison that finds no difference, and a ledger that adds up, are
+//! worth something only if they find these.
 
 use crate::controller::{Answer, Refusal};
 use crate::keys::{Keys, LAST};
 use crate::limits::{HELD_LIMIT, QUEUE_ROOM};
 
 mod fire;
+mod receiver;
 mod saved;
 
 pub use fire::FireFault;
+pub use receiver::ReceiverFault;
 pub use saved::SavedFault;
 
 /// What becomes of held motion that a button or a resume sends.
@@ -79,6 +81,8 @@ pub struct Rules {
     pub saved_fault: Option<SavedFault>,
     /// What is wrong with the right button with the mouse off, if anything is.
     pub fire_fault: Option<FireFault>,
+    /// What is wrong with the host's side of the wire, if anything is.
+    pub receiver_fault: Option<ReceiverFault>,
 }
 
 impl Rules {
@@ -96,6 +100,7 @@ impl Rules {
         key_fault: None,
         saved_fault: None,
         fire_fault: None,
+        receiver_fault: None,
     };
 
     /// Variant `number`, wrong in one place; any other number is the documents.
@@ -114,7 +119,8 @@ impl Rules {
             10..=19 => rules.key_fault = wrong_with_keys(number),
             36 => rules.november_end = 31,
             37 => rules.may_end = 32,
-            38.. => rules.fire_fault = fire::wrong_with_the_fire_button(number),
+            38..=49 => rules.fire_fault = fire::wrong_with_the_fire_button(number),
+            50.. => rules.receiver_fault = receiver::wrong_with_the_receiver(number),
             _ => rules.saved_fault = saved::wrong_with_saved_lines(number),
         }
         rules

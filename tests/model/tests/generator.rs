@@ -223,8 +223,9 @@ fn the_wrong_variants_are_seen() {
     for number in (1..=15).chain([36]).chain(38..=48) {
         assert!(played(&text, Rules::wrong(number)) != right, "{number}");
     }
-    // The end of a May (37) does not show here, and a short buffer (49) never.
-    for number in (16..=35).chain([0, 37, 49, 50]) {
+    // The end of a May (37) does not show here, a short buffer (49) never, and what
+    // follows is wrong on the host's side.
+    for number in (16..=35).chain([0, 37]).chain(49..=61) {
         assert!(played(&text, Rules::wrong(number)) == right, "{number}");
     }
 }
@@ -242,5 +243,5 @@ fn the_wrong_variants_of_the_vectors_are_seen() {
             "{number}"
         );
     }
-    assert!(played_vectors(&text, Rules::wrong(50)) == right);
+    assert!(played_vectors(&text, Rules::wrong(61)) == right);
 }

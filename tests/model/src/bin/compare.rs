@@ -9,6 +9,7 @@ use std::process::exit;
 
 use model::coverage::answer_counts;
 use model::crosscheck::shown;
+use model::differing::{first_difference, line_of, shortest, text_of};
 use model::generator::session;
 use model::process::output_of;
 use model::program::Format;
@@ -73,40 +74,14 @@ impl Task {
         lines[..kept].to_vec()
     }
 
-    /// Removes chunks of lines, ever smaller ones, while the difference stays.
-    fn shrink<'a>(&self, mut lines: Vec<&'a [u8]>) -> Vec<&'a [u8]> {
-        let mut chunk = lines.len().div_ceil(2).max(1);
-        loop {
-            let length = lines.len();
-            lines = self.remove_chunks(lines, chunk);
-            if lines.len() == length && chunk == 1 {
-                return lines;
-            }
-            chunk = chunk.div_ceil(2);
-        }
-    }
-
-    /// From the end, so that what the difference needs is met last.
-    fn remove_chunks<'a>(&self, mut lines: Vec<&'a [u8]>, chunk: usize) -> Vec<&'a [u8]> {
-        let mut end = lines.len();
-        while end > 0 {
-            let start = end.saturating_sub(chunk);
-            let shorter = [&lines[..start], &lines[end..]].concat();
-            if self.differs(&shorter) {
-                lines = shorter;
-            }
-            end = start;
-        }
-        lines
-    }
-
     /// The shortest session found, and both outputs where they part.
     fn report(&self, seed: u64, session: &[u8], difference: usize) -> String {
         let lines: Vec<&[u8]> = session.split_inclusive(|&byte| byte == b'\n').collect();
         let cut = self.up_to_difference(&lines, difference);
+        let differs = |lines: &[&[u8]]| self.differs(lines);
         let shortest = match self.differs(&cut) {
-            true => self.shrink(cut),
-            false => self.shrink(lines),
+            true => shortest(cut, usize::MAX, &differs),
+            false => shortest(lines, usize::MAX, &differs),
         };
         let session = shortest.concat();
         let (ours, theirs) = self.outputs(&session);
@@ -128,10 +103,6 @@ impl Task {
     }
 }
 
-fn text_of(line: &[u8]) -> String {
-    String::from_utf8_lossy(line).trim_end_matches('\n').into()
-}
-
 /// A line, and the fields of the saved line in it, if there is one.
 fn readable(line: &str) -> String {
     let hex = line.rsplit('\t').next().unwrap_or_default();
@@ -142,20 +113,6 @@ fn readable(line: &str) -> String {
         }
         _ => line.into(),
     }
-}
-
-/// The number of the first line, from 0, that is not the same in both.
-fn first_difference(ours: &[u8], theirs: &[u8]) -> Option<usize> {
-    if ours == theirs {
-        return None;
-    }
-    let same = ours.iter().zip(theirs).take_while(|(a, b)| a == b).count();
-    Some(ours[..same].iter().filter(|&&byte| byte == b'\n').count())
-}
-
-fn line_of(output: &[u8], number: usize) -> String {
-    let line = output.split_inclusive(|&byte| byte == b'\n').nth(number);
-    line.map_or("(no such line)".into(), text_of)
 }
 
 /// Adds the answers in an output, and counts its numbered lines.

@@ -34,7 +34,7 @@ pub enum FireFault {
     LevelRefused(Refusal),
 }
 
-/// The variants from 38 on. The last shows only in a buffer that is too short, so
+/// The variants 38 to 49. The last shows only in a buffer that is too short, so
 /// that no line of the text program can tell it.
 pub(super) fn wrong_with_the_fire_button(number: u32) -> Option<FireFault> {
     Some(match number {

@@ -3,7 +3,9 @@
 use native.Mathlib.Omega.{arith}
 use mathlib.Core.Path.{refl}
 use borrow.Author.Needs.{needs}
-use Rattle.protocol.proofs.Table.{all-unused, all-alike, by-table}
+use Rattle.output.proofs.Computed.{all-alike}
+use Rattle.protocol.specs.Codes.{meaning-of}
+use Rattle.protocol.proofs.Table.{all-unused, by-table}
 use Rattle.protocol.proofs.code.inquiry_meaning.Statement.{statement}
 use Rattle.protocol.proofs.code.inquiry_meaning.Tie as tie
 
@@ -29,11 +31,11 @@ returns-5 c = rw (c .match .keys6)
 
 returns-6 : tie.Need-returns-6
 unfolding by-table
-returns-6 c = all-alike _ 0x88 3 (refl, (refl, (refl, tt))) (c .before .before .before .args .code) (search needs) (search needs)
+returns-6 c = all-alike meaning-of _ 0x88 3 (refl, (refl, (refl, tt))) (c .before .before .before .args .code) (search needs) (search needs)
 
 returns-7 : tie.Need-returns-7
 unfolding by-table
-returns-7 c = all-alike _ 0x8F 2 (refl, (refl, tt)) (c .before .before .before .before .before .args .code) (search needs) (search needs)
+returns-7 c = all-alike meaning-of _ 0x8F 2 (refl, (refl, tt)) (c .before .before .before .before .before .args .code) (search needs) (search needs)
 
 returns-8 : tie.Need-returns-8
 returns-8 c = absurd (omega arith)
@@ -56,7 +58,7 @@ returns-12 c = rw (c .match .keys5)
 
 returns-13 : tie.Need-returns-13
 unfolding by-table
-returns-13 c = all-alike _ 0x94 3 (refl, (refl, (refl, tt))) (c .before .before .before .before .before .before .before .args .code) (search needs) (search needs)
+returns-13 c = all-alike meaning-of _ 0x94 3 (refl, (refl, (refl, tt))) (c .before .before .before .before .before .before .before .args .code) (search needs) (search needs)
 
 pub inquiry-meaning-spec : {M : Type 1} → statement M
 inquiry-meaning-spec =

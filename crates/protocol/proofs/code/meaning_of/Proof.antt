@@ -2,7 +2,9 @@
 -- Assumes nothing.
 use mathlib.Core.Path.{refl}
 use borrow.Author.Needs.{needs}
-use Rattle.protocol.proofs.Table.{all-unused, all-alike, by-table}
+use Rattle.output.proofs.Computed.{all-alike}
+use Rattle.protocol.specs.Codes.{meaning-of}
+use Rattle.protocol.proofs.Table.{all-unused, by-table}
 use Rattle.protocol.proofs.code.meaning_of.Statement.{statement}
 use Rattle.protocol.proofs.code.meaning_of.Tie as tie
 
@@ -47,7 +49,7 @@ returns-8 c = search needs
 
 returns-9 : tie.Need-returns-9
 unfolding by-table
-returns-9 c = all-alike _ 0x20 3 (refl, (refl, (refl, tt))) (c .before .before .before .before .before .before .args .code) (search needs) (search needs)
+returns-9 c = all-alike meaning-of _ 0x20 3 (refl, (refl, (refl, tt))) (c .before .before .before .before .before .before .args .code) (search needs) (search needs)
 
 returns-10 : tie.Need-returns-10
 returns-10 c = search needs
