@@ -54,8 +54,9 @@ count "input that ends without a line feed at and about the end of a block, in a
     for ((turn = 0; turn < held_limit / 64; turn++)); do printf 'M\t64\t64\n'; done
     printf 'M\t%d\t%d\nB\t88\n' $((held_limit % 64)) $((held_limit % 64))
 } >"$room/most"
+name="$(with_comma "$most_due") bytes in one line of output"
 as_model "$room/most" && [ "$(target/bin/ikbd <"$room/most" | tail -n 1 | wc -c)" -eq $((6 + 2 * most_due + 1)) ]
-count "$(with_comma "$most_due") bytes in one line of output" $?
+count "$name" $?
 
 # The lines have more bytes than the program may have memory.
 long_line() { head -c 20000000 /dev/zero | tr '\0' T; }

@@ -11,7 +11,7 @@ printf '%s\n' "$said"
     [ "${BASH_REMATCH[1]}" -eq $((50000 + 12 * 256 + 1)) ] && [ "${BASH_REMATCH[2]}" -ge 200000 ] &&
     [ "${BASH_REMATCH[3]}" -ge 50000 ] && [ "$status" -eq 0 ]
 count "packets and the model cut 50,000 strings, 200,000 bytes that ikbd writes and 50,000 lines alike" $?
-# It finds the model's last wrong variants. Its first part, long lines, finds each; the others must find those that they
+# It finds the model's next wrong variants. Its first part, long lines, finds each; the others must find those that they
 # can: strings have no bad line and no long one, and what ikbd writes outside the monitoring modes has packets alone, and
 # none that lies across lines.
 packets_differ() { # where, our program, ikbd, more words for compare_packets

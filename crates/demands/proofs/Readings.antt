@@ -122,6 +122,14 @@ motion-to-the-bound-is-taken =
     ∷ gives (move (minus 1) (plus 0)) nothing
     ∷ [])
 
+-- A part is rounded down toward minus infinity: -3 in two packets is -2 and -1.
+abbrev pub rounded-toward-minus-infinity : Played
+rounded-toward-minus-infinity =
+    played (
+    gives (host (0x13 ∷ []) ++ move (plus 64) (minus 3) ++ times 2 (move (plus 64) (plus 0))) nothing
+    ∷ gives (host (0x11 ∷ [])) (0xF8 ∷ 0x60 ∷ 0xFE ∷ 0xF8 ∷ 0x60 ∷ 0xFF ∷ [])
+    ∷ [])
+
 -- 0x0E takes any filler and leaves the remainder.
 abbrev pub load-leaves-the-remainder : Played
 load-leaves-the-remainder =
@@ -215,6 +223,7 @@ readings =
     ∷ button-as-key-leaves-motion
     ∷ refused-byte-leaves-command
     ∷ motion-to-the-bound-is-taken
+    ∷ rounded-toward-minus-infinity
     ∷ load-leaves-the-remainder
     ∷ origin-signs-as-it-comes
     ∷ remainder-stays-at-the-edge
@@ -231,4 +240,4 @@ readings =
 -- each of them goes so
 pub readings-hold : AllPlayed readings
 unfolding rules of-keys readings
-readings-hold = (((refl, refl), ((refl, refl), tt)), (((refl, refl), ((refl, refl), tt)), (((refl, refl), ((refl, refl), tt)), (((refl, refl), ((refl, refl), tt)), (((refl, refl), ((refl, refl), ((refl, refl), tt))), (((refl, refl), ((refl, refl), tt)), (((refl, refl), ((refl, refl), tt)), (((refl, refl), ((refl, refl), ((refl, refl), tt))), (((refl, refl), ((refl, refl), ((refl, refl), tt))), (((refl, refl), tt), (((refl, refl), ((refl, refl), tt)), (((refl, refl), tt), (((refl, refl), ((refl, refl), ((refl, refl), tt))), (((refl, refl), ((refl, refl), ((refl, refl), tt))), (((refl, refl), ((refl, refl), ((refl, refl), tt))), (((refl, refl), ((refl, refl), tt)), (((refl, refl), ((refl, refl), tt)), (((refl, refl), ((refl, refl), tt)), (((refl, refl), ((refl, refl), tt)), (((refl, refl), tt), tt))))))))))))))))))))
+readings-hold = (((refl, refl), ((refl, refl), tt)), (((refl, refl), ((refl, refl), tt)), (((refl, refl), ((refl, refl), tt)), (((refl, refl), ((refl, refl), tt)), (((refl, refl), ((refl, refl), ((refl, refl), tt))), (((refl, refl), ((refl, refl), tt)), (((refl, refl), ((refl, refl), tt)), (((refl, refl), ((refl, refl), ((refl, refl), tt))), (((refl, refl), ((refl, refl), ((refl, refl), tt))), (((refl, refl), ((refl, refl), tt)), (((refl, refl), tt), (((refl, refl), ((refl, refl), tt)), (((refl, refl), tt), (((refl, refl), ((refl, refl), ((refl, refl), tt))), (((refl, refl), ((refl, refl), ((refl, refl), tt))), (((refl, refl), ((refl, refl), ((refl, refl), tt))), (((refl, refl), ((refl, refl), tt)), (((refl, refl), ((refl, refl), tt)), (((refl, refl), ((refl, refl), tt)), (((refl, refl), ((refl, refl), tt)), (((refl, refl), tt), tt)))))))))))))))))))))

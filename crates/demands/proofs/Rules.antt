@@ -2,7 +2,7 @@
 -- Assumes nothing.
 use Rattle.output.specs.Packets.{pairs}
 use Rattle.output.specs.Writing.{over}
-use Rattle.motion.specs.Motion.{reaches, quotient, remainder, part, after-part, byte, packets-needed, coordinate-after}
+use Rattle.motion.specs.Motion.{reaches, quotient, remainder, part, byte, packets-needed, coordinate-after}
 use Rattle.clock.specs.Clock.{month-length, next-year, next-month, next-day, next-hour, next-minute, next-second, tick}
 use Rattle.clock.specs.Setting.{field, set-to, report}
 use Rattle.protocol.specs.Codes.{table, find, line}
@@ -10,7 +10,7 @@ use Rattle.protocol.specs.Reading.{begin, take-parameter, take-data, feed, comm
 use Rattle.protocol.specs.Commands.{mouse-executed, stick-executed, executed, mouse-sets, stick-sets, other-sets, sets, settings-then, settings-after}
 use Rattle.protocol.specs.Replies.{reply}
 use Rattle.mouse.specs.Mouse.{live, gathers, held-most}
-use Rattle.mouse.specs.Sending.{split, arrows, packets-sent}
+use Rattle.mouse.specs.Sending.{split-from, arrows, packets-sent}
 use Rattle.mouse.specs.Reports.{send-all}
 use Rattle.mouse.specs.Reports as reports
 use Rattle.mouse.specs.Moves.{incoming, added-to-held, either-reaches, send-deltas, coordinates-moved, motion-due, released, live-motion, moves, overflows}
@@ -37,7 +37,7 @@ unfolding pairs over
 of-output = tt
 
 of-motion : Unit {0}
-unfolding reaches quotient remainder part after-part byte packets-needed coordinate-after
+unfolding reaches quotient remainder part byte packets-needed coordinate-after
 of-motion = tt
 
 of-clock : Unit {0}
@@ -53,7 +53,7 @@ unfolding mouse-executed stick-executed executed mouse-sets stick-sets other-set
 of-settings = tt
 
 of-mouse : Unit {0}
-unfolding live gathers held-most split arrows packets-sent send-all reports.report live-button presses gives-fire commanded
+unfolding live gathers held-most split-from arrows packets-sent send-all reports.report live-button presses gives-fire commanded
 of-mouse = tt
 
 of-moves : Unit {0}

@@ -89,12 +89,12 @@ sessions =
     single (move (plus 0) (plus 0)) nothing
     -- 2. 0F, M 0 5: F8 00 FB.
     ∷ single (host (0x0F ∷ []) ++ move (plus 0) (plus 5)) (0xF8 ∷ 0x00 ∷ 0xFB ∷ [])
-    -- 3. 13, M 64 0 three times, 11: F8 7F 00 F8 41 00.
+    -- 3. 13, M 64 0 three times, 11: "F8 60 00 twice" (02, A6).
     ∷ single (host (0x13 ∷ []) ++ times 3 (move (plus 64) (plus 0)) ++ host (0x11 ∷ []))
-    (0xF8 ∷ 0x7F ∷ 0x00 ∷ 0xF8 ∷ 0x41 ∷ 0x00 ∷ [])
-    -- 4. 13, M -64 0 three times, 11: F8 80 00 F8 C0 00.
+    (0xF8 ∷ 0x60 ∷ 0x00 ∷ 0xF8 ∷ 0x60 ∷ 0x00 ∷ [])
+    -- 4. 13, M -64 0 three times, 11: "F8 A0 00 twice" (02, A6).
     ∷ single (host (0x13 ∷ []) ++ times 3 (move (minus 64) (plus 0)) ++ host (0x11 ∷ []))
-    (0xF8 ∷ 0x80 ∷ 0x00 ∷ 0xF8 ∷ 0xC0 ∷ 0x00 ∷ [])
+    (0xF8 ∷ 0xA0 ∷ 0x00 ∷ 0xF8 ∷ 0xA0 ∷ 0x00 ∷ [])
     -- 5. 80 80 01: nothing; 80 01: F0.
     ∷ (gives (host (0x80 ∷ 0x80 ∷ 0x01 ∷ [])) nothing ∷ gives (host (0x80 ∷ 0x01 ∷ [])) (0xF0 ∷ []) ∷ [])
     -- 6. 09 01 3F 00 C7, M 64 -64 six times, 0D: F7 00 01 3F 00 00.

@@ -1,12 +1,12 @@
 -- An integer as a difference of two naturals, so that equations and orders of integers follow from arithmetic on naturals.
 -- Assumes nothing.
-use Prim.Native.Nat.{ℕ, zero, suc, _+_, _-_, _≤_, min}
+use Prim.Native.Nat.{ℕ, zero, suc, _+_, _-_, _*_, _≤_, _<_, min}
 use native.Mathlib.Omega.{arith}
 use mathlib.Core.Path.{_≡_, refl, ap}
 use mathlib.Core.Bool.{Bool, true, false, not, cond}
-use lib.Dec.{T, ltb, ltb→lt, nltb→le, leb→le, le→leb}
-use lib.IntN.{ℤ, pos, negsuc, negℤ, natAbs, subℕ, _+ℤ_}
-use lib.Signed.{_≤ℤ_, leZ}
+use lib.Dec.{T, ltb, ltb→lt, lt→ltb, nltb→le, leb→le, le→leb}
+use lib.IntN.{ℤ, pos, negsuc, negℤ, natAbs, subℕ, _+ℤ_, _*ℤ_}
+use lib.Signed.{_≤ℤ_, _<ℤ_, leZ, ltZ}
 
 -- the part of an integer above zero, and the part below: one of them is 0
 abbrev pub above : ℤ → ℕ
@@ -59,6 +59,11 @@ _⊕_ {a = pos a} {b = negsuc b} {p} {n} {q} {m} h k = let e = h .by in let f = 
 _⊕_ {a = negsuc a} {b = pos b} {p} {n} {q} {m} h k = let e = h .by in let f = k .by in also (less b (suc a)) (omega arith)
 _⊕_ {a = negsuc a} {b = negsuc b} {p} {n} {q} {m} h k = let e = h .by in let f = k .by in record { by = omega arith }
 
+-- so many times an integer
+pub times : (k : ℕ) {z : ℤ} {p n : ℕ} → Differs z p n → Differs (z *ℤ pos k) (p * k) (n * k)
+times k {z = pos a} {p} {n} h = let e = ap (λ (x : ℕ). x * k) (h .by) in record { by = omega arith }
+times k {z = negsuc a} {p} {n} h = let e = ap (λ (x : ℕ). x * k) (h .by) in also (negated (plain (suc a * k))) (omega arith)
+
 -- equal integers, from their parts
 same-parts : (a b : ℤ) → above a + below b ≡ above b + below a → a ≡ b
 same-parts (pos a) (pos b) e = ap pos (omega arith)
@@ -94,6 +99,15 @@ order-parts (negsuc a) (negsuc b) t = let h = leb→le b a t in omega arith
 -- the order of differences is the order of integers
 pub at-most : {a b : ℤ} {p n q m : ℕ} → Differs a p n → Differs b q m → p + m ≤ q + n → a ≤ℤ b
 at-most {a} {b} {p} {n} {q} {m} h k e = let f = h .by in let g = k .by in record { le = parts-order a b (omega arith) }
+
+parts-strict : (a b : ℤ) → above a + below b < above b + below a → T (ltZ a b)
+parts-strict (pos a) (pos b) e = lt→ltb a b (omega arith)
+parts-strict (pos a) (negsuc b) e = absurd (omega arith)
+parts-strict (negsuc a) (pos b) e = tt
+parts-strict (negsuc a) (negsuc b) e = lt→ltb b a (omega arith)
+
+pub less-than : {a b : ℤ} {p n q m : ℕ} → Differs a p n → Differs b q m → p + m < q + n → a <ℤ b
+less-than {a} {b} {p} {n} {q} {m} h k e = let f = h .by in let g = k .by in record { lt = parts-strict a b (omega arith) }
 
 -- and back
 pub at-most-back : {a b : ℤ} {p n q m : ℕ} → Differs a p n → Differs b q m → a ≤ℤ b → p + m ≤ q + n

@@ -9,7 +9,7 @@ use borrow.Author.Tests.{le-leb, lt-leb}
 use lib.IntN.{ℤ, pos, negsuc, negℤ, natAbs, _+ℤ_}
 use lib.Signed.{_≤ℤ_, quotZ, remZ}
 use Rattle.motion.specs.declared.Motion.{Motion}
-use Rattle.motion.specs.Motion.{value, OneSided, size, of-signed, sum, opposite, reaches, quotient, remainder, part, after-part, coordinate-after}
+use Rattle.motion.specs.Motion.{value, OneSided, size, of-signed, sum, opposite, reaches, quotient, remainder, coordinate-after}
 use Rattle.motion.proofs.Difference.{Differs, above, below, itself, plain, negated, less, also, _⊕_, equal, at-most-back, one-part, absolute}
 
 -- a motion stands for its one side less the other
@@ -82,20 +82,10 @@ pub one-sided-quotient : (m : Motion) (scale : ℕ) → OneSided m → OneSided 
 unfolding quotient
 one-sided-quotient m scale o = omega (arith, div-le-self (m .plus) scale, div-le-self (m .minus) scale)
 
--- in a remainder,
+-- and in a remainder.
 pub one-sided-remainder : (m : Motion) (scale : ℕ) → OneSided m → OneSided (remainder m scale)
 unfolding remainder
 one-sided-remainder m scale o = omega (arith, mod-le (m .plus) scale, mod-le (m .minus) scale)
-
--- in the part of a packet,
-pub one-sided-part : (m : Motion) → OneSided m → OneSided (part m)
-unfolding part
-one-sided-part m o = omega arith
-
--- and in what is left after it.
-pub one-sided-after-part : (m : Motion) → OneSided m → OneSided (after-part m)
-unfolding after-part
-one-sided-after-part m o = omega arith
 
 -- a motion as far as the threshold reaches it
 pub reaches-true : (m : Motion) (threshold : ℕ) → threshold ≤ size m → reaches m threshold ≡ true

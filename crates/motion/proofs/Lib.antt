@@ -1,5 +1,8 @@
 pub mod Difference
 pub mod Integers
 pub mod Bounds
-pub mod Parts
+pub mod Rounding
+pub mod LongMoves
+pub mod Examples
+pub mod Spreads
 pub mod Signed

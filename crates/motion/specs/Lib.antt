@@ -1,1 +1,3 @@
 pub mod Motion
+pub mod LongMoves
+pub mod Spread

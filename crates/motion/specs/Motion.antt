@@ -1,10 +1,10 @@
--- Motion along one axis (document 01, "The mouse"). A motion has two sides of which one is 0, and stands for the integer plus - minus.
+-- Motion along one axis (document 01, "The mouse"; the parts of packets: document 02, A6). A motion has two sides of which one is 0, and stands for the integer plus - minus.
 -- What the two axes do together is said with the mouse.
 use Prim.Native.Nat.{ℕ, suc, _+_, _-_, _/_, _%_, min, max}
 use mathlib.Core.Path.{_≡_}
 use mathlib.Core.Bool.{Bool, cond}
 use lib.Dec.{leb, ltb}
-use lib.IntN.{ℤ, pos, negsuc, subℕ}
+use lib.IntN.{ℤ, pos, negsuc, subℕ, _-ℤ_, _*ℤ_}
 use Rattle.motion.specs.declared.Motion.{Motion}
 use Rattle.motion.specs.declared.Motions.{Motions}
 
@@ -53,17 +53,19 @@ quotient m scale = record { plus = m .plus / scale; minus = m .minus / scale }
 unfoldable pub remainder : Motion → ℕ → Motion
 remainder m scale = record { plus = m .plus % scale; minus = m .minus % scale }
 
--- "each takes as much as -128 to 127 allows of what is left": the part of one packet
-unfoldable pub part : Motion → Motion
-part m = record { plus = min (m .plus) 127; minus = min (m .minus) 128 }
+-- z / n, "rounded down", which is toward minus infinity: -1 / 2 is -1
+abbrev pub down : ℤ → ℕ → ℤ
+down (pos a) n = pos (a / n)
+down (negsuc a) n = negsuc (a / n)
 
--- what is left after that part
-unfoldable pub after-part : Motion → Motion
-after-part m = record { plus = m .plus - 127; minus = m .minus - 128 }
+-- "of n packets the k-th, from 0, carries t·(k+1)/n less t·k/n, each division rounded down, for an axis total t"
+unfoldable pub part : ℕ → ℕ → ℤ → ℤ
+part n k t = down (t *ℤ pos (k + 1)) n -ℤ down (t *ℤ pos k) n
 
--- "X, Y in two's complement": the byte of a part
-unfoldable pub byte : Motion → ℕ
-byte m = (m .plus + (256 - m .minus)) % 256
+-- "X, Y in two's complement": the byte of an integer, which is that of every integer 256 away
+unfoldable pub byte : ℤ → ℕ
+byte (pos a) = a % 256
+byte (negsuc a) = 255 - a % 256
 
 -- "X, Y in two's complement": the integer that a byte says
 abbrev pub signed-byte : ℕ → ℤ

@@ -1,7 +1,9 @@
 // Mouse motion along an axis, as two sides of which one is 0: its value is `plus` less `minus`.
 ghost use mathlib.Core.Path.{_≡_};
 ghost use Prim.Native.Nat.{_+_, _-_, _≤_, min, max};
-ghost use Rattle.motion.specs.Motion.{at-rest, of-signed, sum, opposite, size, reaches, quotient, remainder, part, byte, after-part, packets-needed, coordinate-after};
+ghost use Rattle.motion.specs.Motion.{at-rest, of-signed, sum, opposite, size, reaches, quotient, remainder, packets-needed, coordinate-after};
+
+mod evenly;
 
 pub struct Motion {
     pub plus: u16,
@@ -12,6 +14,14 @@ pub struct Motion {
 pub struct Motions {
     pub x: Motion,
     pub y: Motion,
+}
+
+// What is kept before each packet: every packet carries `each`, a byte in two's complement, and 1 more whenever the `rest` that the division left has added up to the number of packets; `error` is what has added up.
+pub struct Spread {
+    pub packets: u16,
+    pub each: u8,
+    pub rest: u16,
+    pub error: u16,
 }
 
 impl Motion {
@@ -86,25 +96,6 @@ impl Motion {
         Motion {
             plus: self.plus % s,
             minus: self.minus % s,
-        }
-    }
-
-    // As much as one packet takes, in two's complement.
-    pub fn part_byte(self) -> u8
-        ensures { λ r. ⌜ r ≡ byte (part self) ⌝ }
-    {
-        let p = smaller(self.plus, 127);
-        let m = smaller(self.minus, 128);
-        ((p + (256 - m)) % 256) as u8
-    }
-
-    // What one packet leaves.
-    pub fn after_part(self) -> Self
-        ensures { λ r. ⌜ r ≡ after-part self ⌝ }
-    {
-        Motion {
-            plus: less(self.plus, 127),
-            minus: less(self.minus, 128),
         }
     }
 

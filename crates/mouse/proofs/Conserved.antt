@@ -1,6 +1,6 @@
 -- No motion is lost or doubled: what the packets of an event say, with what is still held after it, is what was held before it and what came in.
 -- Assumes nothing.
-use Prim.Native.Nat.{ℕ, zero, suc, _≤_, max}
+use Prim.Native.Nat.{ℕ, zero, suc, _+_, _≤_}
 use native.Mathlib.Omega.{arith}
 use mathlib.Core.Path.{_≡_, refl, sym, ap, ap₂, _∙_}
 use mathlib.Core.Bool.{Bool, true, false, cond, not}
@@ -11,11 +11,9 @@ use lib.IntN.{ℤ, pos, negℤ, _+ℤ_, +ℤ-idl, +ℤ-idr, +ℤ-assoc}
 use borrow.Author.Tests.{ne-eqb}
 use Rattle.output.specs.Packets.{Packet}
 use Rattle.output.proofs.Cases.{both-ways}
-use Rattle.motion.specs.declared.Motion.{Motion}
 use Rattle.motion.specs.declared.Motions.{Motions}
-use Rattle.motion.specs.Motion.{value, part, after-part, byte, signed-byte, packets-needed, opposite, of-signed}
+use Rattle.motion.specs.Motion.{value, opposite, of-signed}
 use Rattle.motion.proofs.Integers.{value-of-signed, value-sum, value-opposite}
-use Rattle.motion.proofs.Parts.{part-and-rest, byte-says, all-sent, one-fewer}
 use Rattle.protocol.specs.declared.MouseMode.{MouseMode}
 use Rattle.protocol.specs.declared.MouseMode.the-variants.{Relative, Absolute, Keycode}
 use Rattle.protocol.specs.declared.MouseCommand.{MouseCommand}
@@ -26,12 +24,13 @@ use Rattle.mouse.specs.declared.Mouse.{Mouse}
 use Rattle.mouse.specs.declared.Side.{Side}
 use Rattle.mouse.specs.Mouse.{live, with-held}
 use Rattle.mouse.specs.Reports.{MouseDue, packets-due, quiet, send-all, report}
-use Rattle.mouse.specs.Sending.{split, packets-for, packets-sent, nothing-sent}
+use Rattle.mouse.specs.Sending.{split-from, packets-sent, nothing-sent}
 use Rattle.mouse.specs.Moves.{incoming, added-to-held, either-reaches, motion-due, released, resumed, live-motion, moves}
 use Rattle.mouse.specs.Buttons.{level, with-level, unchanged, as-keys, action-reports, live-button, presses}
 use Rattle.mouse.specs.Commands.{commanded}
 use Rattle.mouse.specs.Totals.{Axis, AlongX, AlongY, along, says, said, brings}
 use Rattle.mouse.proofs.Dues.{none-sent, all-due}
+use Rattle.mouse.proofs.Splits.{split-says, enough}
 use Rattle.mouse.proofs.States.{level-held}
 
 -- what is said and what is still held, together, are what the mouse held
@@ -46,24 +45,6 @@ nothing-said a ps {z} e = rw (none-sent, e) (+ℤ-idl z)
 pub said-append : (a : Axis) (ps qs : List Packet) → said a (ps ++ qs) ≡ said a ps +ℤ said a qs
 said-append a [] qs = sym (+ℤ-idl (said a qs))
 said-append a (p ∷ ps) qs = ap (λ (z : ℤ). says a p +ℤ z) (said-append a ps qs) ∙ sym (+ℤ-assoc (says a p) (said a ps) (said a qs))
-
--- one packet of a split, and then the rest
-one-part : (m : Motion) (rest : ℤ) → rest ≡ value (after-part m) → signed-byte (byte (part m)) +ℤ rest ≡ value m
-one-part m rest e =
-    ap (λ (z : ℤ). z +ℤ rest) (byte-says m) ∙ ap (λ (z : ℤ). value (part m) +ℤ z) e ∙ part-and-rest m
-
--- enough packets say the whole motion
-pub split-says : (a : Axis) (n levels : ℕ) (d : Motions) → packets-needed (along a d) ≤ n → said a (split n levels d) ≡ value (along a d)
-unfolding split
-split-says a zero levels d h = sym (ap value (all-sent 0 (along a d) h))
-split-says AlongX (suc n) levels d h =
-    one-part (d .x) _ (split-says AlongX n levels (record { x = after-part (d .x); y = after-part (d .y) }) (one-fewer n (d .x) h))
-split-says AlongY (suc n) levels d h =
-    one-part (d .y) _ (split-says AlongY n levels (record { x = after-part (d .x); y = after-part (d .y) }) (one-fewer n (d .y) h))
-
-enough : (a : Axis) (least : ℕ) (d : Motions) → packets-needed (along a d) ≤ max least (packets-for d)
-enough AlongX least d = omega arith
-enough AlongY least d = omega arith
 
 none-held : (a : Axis) (least : ℕ) (m : Mouse) → value (along a (send-all least m .mouse .held)) ≡ pos 0
 unfolding send-all
@@ -163,17 +144,17 @@ presses-conserve a σ side down m =
     both-ways (Keeps a m) (live σ) (λ l. live-button-keeps a (σ .mouse) (σ .action) side down now ∙ same) (λ l. nothing-said a _ refl ∙ same))
 
 -- a split has as many packets as it is asked for
-pub split-length : (n levels : ℕ) (d : Motions) → length (split n levels d) ≡ n
-unfolding split
-split-length zero levels d = refl
-split-length (suc n) levels d = ap suc (split-length n levels (record { x = after-part (d .x); y = after-part (d .y) }))
+from-length : (rest n k levels : ℕ) (d : Motions) → length (split-from rest n k levels d) ≡ rest
+unfolding split-from
+from-length zero n k levels d = refl
+from-length (suc rest) n k levels d = ap suc (from-length rest n (k + 1) levels d)
 
 changed : (down : Bool) → cond down (not down) (not (not down)) ≡ false
 changed true = refl
 changed false = refl
 
 sends-least : (least : ℕ) (m : Mouse) → 1 ≤ least → 1 ≤ length (packets-due (send-all least m))
-sends-least least m h = rw (all-due least m, split-length) (omega arith)
+sends-least least m h = rw (all-due least m, from-length) (omega arith)
 
 -- a live button in relative mode, whose level changes and which is no key, sends a packet at least
 pub button-sends : (σ : Settings) (side : Side) (down : Bool) (m : Mouse) → σ .mouse ≡ Relative → live σ ≡ true → level side m ≡ not down → (σ .action ≡ as-keys → ⊥) → 1 ≤ length (packets-due (presses σ side down m))

@@ -21,7 +21,7 @@ use Rattle.protocol.specs.declared.Settings.{Settings}
 use Rattle.mouse.specs.declared.Mouse.{Mouse}
 use Rattle.mouse.specs.declared.Side.{Side}
 use Rattle.mouse.specs.Mouse.{live, with-held}
-use Rattle.mouse.specs.Sending.{buttons, split, packets-for, arrows, packets-sent, nothing-sent}
+use Rattle.mouse.specs.Sending.{buttons, split-from, split, packets-for, arrows, packets-sent, nothing-sent}
 use Rattle.mouse.specs.Reports.{MouseDue, packets-due, quiet, send-all, report}
 use Rattle.mouse.specs.Moves.{added-to-held, either-reaches, send-deltas, motion-due, released, resumed, live-motion, moves}
 use Rattle.mouse.specs.Buttons.{with-level, unchanged, as-keys, action-reports, live-button, presses}
@@ -32,7 +32,7 @@ unfolding arrows pairs
 no-arrows = refl
 
 pub none-sent : packets-sent nothing-sent ≡ []
-unfolding packets-sent split
+unfolding packets-sent split-from
 none-sent = no-arrows
 
 -- where nothing of held motion is sent, the others are all that falls due

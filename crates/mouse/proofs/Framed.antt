@@ -1,6 +1,6 @@
 -- Each packet of the mouse says itself where it ends: the levels are bits, and the arrows and the buttons are keys.
 -- Assumes nothing.
-use Prim.Native.Nat.{ℕ, zero, suc, _≤_}
+use Prim.Native.Nat.{ℕ, zero, suc, _+_, _≤_}
 use native.Mathlib.Omega.{arith}
 use mathlib.Core.Path.{_≡_, refl}
 use mathlib.Core.Bool.{Bool, true, false}
@@ -12,7 +12,6 @@ use Rattle.output.specs.Packets.{pairs}
 use Rattle.output.proofs.Cases.{both-ways}
 use Rattle.output.proofs.Framed.{AllFramed, framed-append, sent-framed, pairs-framed}
 use Rattle.motion.specs.declared.Motions.{Motions}
-use Rattle.motion.specs.Motion.{after-part}
 use Rattle.protocol.specs.declared.MouseMode.{MouseMode}
 use Rattle.protocol.specs.declared.MouseMode.the-variants.{Relative, Absolute, Keycode}
 use Rattle.protocol.specs.declared.MouseCommand.{MouseCommand}
@@ -22,7 +21,7 @@ use Rattle.mouse.specs.declared.Mouse.{Mouse}
 use Rattle.mouse.specs.declared.Side.{Side}
 use Rattle.mouse.specs.declared.Side.the-variants.{Left, Right}
 use Rattle.mouse.specs.Mouse.{live}
-use Rattle.mouse.specs.Sending.{buttons, split, arrows, packets-sent}
+use Rattle.mouse.specs.Sending.{buttons, split-from, split, arrows, packets-sent}
 use Rattle.mouse.specs.Reports.{MouseDue, packets-due, send-all, report}
 use Rattle.mouse.specs.Moves.{resumed, moves}
 use Rattle.mouse.specs.Buttons.{with-level, unchanged, key-of, as-keys, action-reports, live-button, presses}
@@ -35,10 +34,10 @@ buttons-most true false = omega arith
 buttons-most false true = omega arith
 buttons-most false false = omega arith
 
-split-framed : (n levels : ℕ) (d : Motions) → levels ≤ 3 → AllFramed (split n levels d)
-unfolding split
-split-framed zero levels d h = tt
-split-framed (suc n) levels d h = (h, split-framed n levels (record { x = after-part (d .x); y = after-part (d .y) }) h)
+split-framed : (rest n k levels : ℕ) (d : Motions) → levels ≤ 3 → AllFramed (split-from rest n k levels d)
+unfolding split-from
+split-framed zero n k levels d h = tt
+split-framed (suc rest) n k levels d h = (h, split-framed rest n (k + 1) levels d h)
 
 arrows-framed : (d : Motions) → AllFramed (arrows d)
 unfolding arrows is-make
@@ -54,7 +53,7 @@ due-framed d h =
     let s = d .sending in
     let levels = buttons (s .left) (s .right) in
     framed-append (packets-sent s) (d .others)
-    (framed-append (split (s .packets) levels (s .held)) (arrows (s .arrows)) (split-framed (s .packets) levels (s .held) (buttons-most (s .left) (s .right))) (arrows-framed (s .arrows)))
+    (framed-append (split (s .packets) levels (s .held)) (arrows (s .arrows)) (split-framed (s .packets) (s .packets) 0 levels (s .held) (buttons-most (s .left) (s .right))) (arrows-framed (s .arrows)))
     h
 
 pub resumed-framed : (paused : Bool) (σ : Settings) (m : Mouse) → AllFramed (packets-due (resumed paused σ m))

@@ -13,7 +13,7 @@ use Rattle.output.specs.Packets.{Packet, bytes, pairs}
 use Rattle.output.proofs.Cases.{both-ways}
 use Rattle.output.proofs.Packets.{bytes-append, pairs-length}
 use Rattle.motion.specs.declared.Motions.{Motions}
-use Rattle.motion.specs.Motion.{size, after-part}
+use Rattle.motion.specs.Motion.{size}
 use Rattle.motion.proofs.Bounds.{quotient-size, needed-size}
 use Rattle.protocol.specs.declared.Axes.{Axes}
 use Rattle.protocol.specs.declared.MouseMode.{MouseMode}
@@ -30,17 +30,18 @@ use Rattle.mouse.specs.Reports.{MouseDue, packets-due, send-all, report}
 use Rattle.mouse.specs.Moves.{added-to-held, either-reaches, send-deltas, coordinates-moved, motion-due, released, live-motion, moves}
 use Rattle.mouse.specs.Buttons.{with-level, unchanged, live-button, presses, as-keys, action-reports}
 use Rattle.mouse.specs.Commands.{commanded}
-use Rattle.mouse.specs.Sending.{split, arrows, packets-sent, nothing-sent}
+use Rattle.mouse.specs.Sending.{split-from, split, arrows, packets-sent, nothing-sent}
 use Rattle.mouse.proofs.Dues.{none-sent, quiet-due}
 use Rattle.mouse.proofs.States.{GoodMouse, added-to-held-size, level-held, held-small, held-unpaused}
 
 -- n packets of motion are 3·n bytes
+from-length : (rest n k levels : ℕ) (d : Motions) → length (bytes (split-from rest n k levels d)) ≡ 3 * rest
+unfolding split-from
+from-length zero n k levels d = refl
+from-length (suc rest) n k levels d = let h = from-length rest n (k + 1) levels d in omega arith
+
 pub split-length : (n levels : ℕ) (d : Motions) → length (bytes (split n levels d)) ≡ 3 * n
-unfolding split
-split-length zero levels d = refl
-split-length (suc n) levels d =
-    let h = split-length n levels (record { x = after-part (d .x); y = after-part (d .y) }) in
-    omega arith
+split-length n levels d = from-length n n 0 levels d
 
 four-append : (a b c d : List Packet) → length (bytes (a ++ (b ++ (c ++ d)))) ≡ length (bytes a) + (length (bytes b) + (length (bytes c) + length (bytes d)))
 four-append a b c d = simp (bytes-append, length-append)
@@ -61,7 +62,7 @@ arrows-length d =
 -- what is sent of held motion, as the code hands it on: three bytes a packet, two an arrow
 pub sent-length : (d : Sending) → length (bytes (packets-sent d)) ≡ 3 * d .packets + 2 * (size (d .arrows .x) + size (d .arrows .y))
 unfolding packets-sent
-sent-length d = simp (bytes-append, length-append, split-length, arrows-length)
+sent-length d = simp (bytes-append, length-append, from-length, arrows-length)
 
 -- what falls due: three bytes a packet of motion, two an arrow, and those of the other packets
 due-bytes : (d : MouseDue) → length (bytes (packets-due d)) ≡ 3 * d .sending .packets + 2 * (size (d .sending .arrows .x) + size (d .sending .arrows .y)) + length (bytes (d .others))

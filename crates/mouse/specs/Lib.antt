@@ -6,3 +6,4 @@ pub mod Buttons
 pub mod Commands
 pub mod Handing
 pub mod Totals
+pub mod LongMoves

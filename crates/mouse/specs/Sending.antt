@@ -1,23 +1,25 @@
--- Held motion as it is sent: packets of motion, or arrow keys (document 01, "The mouse"). When it is sent, and what else, is said elsewhere.
+-- Held motion as it is sent: packets of motion, or arrow keys (document 01, "The mouse"; document 02, A6). When it is sent, and what else, is said elsewhere.
 use Prim.Native.Nat.{ℕ, zero, suc, _+_, _*_, max}
 use mathlib.Core.Bool.{Bool, false}
 use mathlib.Core.List.{List, [], _∷_, _++_}
 use Rattle.output.specs.ScanCodes.{arrow-right, arrow-left, arrow-up, arrow-down}
 use Rattle.output.specs.Packets.{Packet, motion, pairs, bit}
 use Rattle.motion.specs.declared.Motions.{Motions}
-use Rattle.motion.specs.Motion.{at-rest, part, after-part, byte, packets-needed}
+use Rattle.motion.specs.Motion.{at-rest, value, part, byte, packets-needed}
 use Rattle.mouse.specs.declared.Sending.{Sending}
 
 -- "2·left + right", which a packet adds to 0xF8
 abbrev pub buttons : Bool → Bool → ℕ
 buttons left right = 2 * bit left + bit right
 
--- n packets; "each takes as much as -128 to 127 allows of what is left, per axis"
-unfoldable pub split : ℕ → ℕ → Motions → List Packet
-split zero levels d = []
-split (suc n) levels d =
-    motion levels (byte (part (d .x))) (byte (part (d .y)))
-    ∷ split n levels (record { x = after-part (d .x); y = after-part (d .y) })
+-- so many of n packets, from the k-th on: "the k-th, from 0, carries" its part of either total
+unfoldable pub split-from : ℕ → ℕ → ℕ → ℕ → Motions → List Packet
+split-from zero n k levels d = []
+split-from (suc rest) n k levels d = motion levels (byte (part n k (value (d .x)))) (byte (part n k (value (d .y)))) ∷ split-from rest n (k + 1) levels d
+
+-- the n packets of held motion
+abbrev pub split : ℕ → ℕ → Motions → List Packet
+split n levels d = split-from n n 0 levels d
 
 -- "The fewest packets are sent"
 abbrev pub packets-for : Motions → ℕ

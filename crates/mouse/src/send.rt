@@ -49,20 +49,23 @@ fn header(left: bool, right: bool) -> u8
     0xF8 + (2 * left as u8 + right as u8)
 }
 
-// Each packet takes as much as it can of what the packets before it left.
+// Each packet carries its part of the motion along either axis.
 fn write_packets(n: u16, left: bool, right: bool, held: Motions, out: &mut [u8]) -> usize
     requires { ⌜ 3 * n ≤ length (now out) ⌝ }
     ensures { λ r. ⌜ Wrote (bytes (split n (buttons left right) held)) r (now (out .entry)) (now (out .exit)) ⌝ }
 {
+    if n == 0 {
+        return 0;
+    }
     let first = header(left, right);
-    let mut x = held.x;
-    let mut y = held.y;
+    let mut x = held.x.spread(n);
+    let mut y = held.y.spread(n);
     let mut rest = n;
     let mut at = 0;
     while 0 < rest {
-        let k = output::put3(first, x.part_byte(), y.part_byte(), &mut out[at..]);
-        x = x.after_part();
-        y = y.after_part();
+        let k = output::put3(first, x.byte(), y.byte(), &mut out[at..]);
+        x = x.next();
+        y = y.next();
         at += k;
         rest -= 1;
     }

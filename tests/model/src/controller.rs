@@ -4,7 +4,7 @@
 use crate::command::Command;
 use crate::keys::CODES;
 use crate::mouse::Button;
-use crate::rules::Sending;
+use crate::rules::Occasion;
 use crate::state::{JoystickMode, MouseMode, Role, State, Velocity};
 
 /// A host byte or an event, its numbers as they came.
@@ -192,7 +192,7 @@ impl State {
                 return Err(Refusal::MotionFull);
             }
         } else {
-            mouse.send_due(Sending::Once, &self.rules, out);
+            mouse.send_due(Occasion::Motion, &self.rules, out);
             check_room(lent, out)?;
         }
         self.mouse = mouse;
@@ -283,7 +283,7 @@ impl State {
         if resumes {
             out.extend_from_slice(self.queue.bytes());
             if self.mouse_is_live() {
-                mouse.send_due(self.rules.at_resume, &self.rules, out);
+                mouse.send_due(Occasion::Resume, &self.rules, out);
             }
         }
         self.push_answer(command.code(), out);

@@ -1,6 +1,6 @@
 //! "The mouse."
 
-use crate::rules::{Rules, Sending};
+use crate::rules::{Occasion, Rules, Sending};
 use crate::state::{acting, arrow, MouseMode, X, Y};
 
 /// The button action that makes keys of the buttons.
@@ -90,11 +90,11 @@ impl Mouse {
     }
 
     /// Sends the held motion that is due at a motion event or at a resume.
-    pub fn send_due(&mut self, sending: Sending, rules: &Rules, out: &mut Vec<u8>) {
+    pub fn send_due(&mut self, occasion: Occasion, rules: &Rules, out: &mut Vec<u8>) {
         match self.mode {
             MouseMode::Relative => {
                 if self.reaches_threshold(rules) {
-                    self.send_held(sending, out);
+                    self.send_held(occasion, rules, out);
                 }
             }
             MouseMode::Absolute { .. } => {} // "in absolute mode none is due"
@@ -110,12 +110,13 @@ impl Mouse {
     }
 
     /// Sends all held motion, or does what a wrong variant does with it.
-    fn send_held(&mut self, sending: Sending, out: &mut Vec<u8>) {
+    fn send_held(&mut self, occasion: Occasion, rules: &Rules, out: &mut Vec<u8>) {
         let (held, sent) = (self.held, out.len());
+        let sending = rules.sending(occasion);
         if sending == Sending::Dropped {
             self.held = [0, 0];
         }
-        self.send_all(out);
+        self.send_all(occasion, rules, out);
         match sending {
             Sending::Once | Sending::Dropped => {}
             Sending::AndKept => self.held = held,
@@ -123,18 +124,14 @@ impl Mouse {
         }
     }
 
-    /// "One packet is 0xF8 + 2·left + right, X, Y in two's complement. The
-    /// fewest packets are sent; each takes as much as -128 to 127 allows of
-    /// what is left, per axis." At least one packet.
-    fn send_all(&mut self, out: &mut Vec<u8>) {
-        loop {
-            let part = self.held.map(|left| left.clamp(-128, 127));
+    /// "One packet is 0xF8 + 2·left + right, X, Y in two's complement." At least
+    /// one packet.
+    fn send_all(&mut self, occasion: Occasion, rules: &Rules, out: &mut Vec<u8>) {
+        let parts = rules.parts(occasion, self.held);
+        for part in parts {
             out.extend_from_slice(&[0xF8 + self.levels, part[X] as u8, part[Y] as u8]);
-            self.held = [self.held[X] - part[X], self.held[Y] - part[Y]];
-            if self.held == [0, 0] {
-                return;
-            }
         }
+        self.held = [0, 0];
     }
 
     /// "each whole delta in the held motion sends a make and break pair, all X
@@ -174,7 +171,7 @@ impl Mouse {
         } else if !absolute {
             // "A button with action 0 to 3 sends all held motion with the new
             // levels, at least one packet, paused or not."
-            self.send_held(rules.at_button, out);
+            self.send_held(Occasion::Button, rules, out);
         } else if self.action & if down { 1 } else { 2 } != 0 {
             // "then with action bit 0 a press, with bit 1 a release, sends the
             // same report without clearing"
@@ -187,6 +184,35 @@ impl Mouse {
         let [x, y] = self.coordinates.map(u16::to_be_bytes);
         out.extend_from_slice(&[0xF7, self.latches, x[0], x[1], y[0], y[1]]);
     }
+}
+
+/// How motion is split into packets: the part of each axis that each carries.
+pub fn split(totals: [i32; 2]) -> Vec<[i32; 2]> {
+    let count = packets_for(totals);
+    let parts = (0..count).map(|k| totals.map(|total| part(total, k, count)));
+    parts.collect()
+}
+
+/// "The fewest packets are sent", so as many as the axis needs that needs the most
+/// (reading 91); "at least one packet".
+pub fn packets_for(totals: [i32; 2]) -> i32 {
+    let [x, y] = totals.map(packets_needed);
+    x.max(y).max(1)
+}
+
+/// How many parts of -128 to 127 a total needs: 256 needs 3, and -256 needs 2.
+fn packets_needed(total: i32) -> i32 {
+    match total {
+        0.. => (total + 126) / 127,
+        _ => (127 - total) / 128,
+    }
+}
+
+/// Request A6: "of n packets the k-th, from 0, carries t·(k+1)/n less t·k/n, each
+/// division rounded down, for an axis total t." Down is toward minus infinity
+/// (reading 91).
+fn part(total: i32, k: i32, count: i32) -> i32 {
+    (total * (k + 1)).div_euclid(count) - (total * k).div_euclid(count)
 }
 
 fn level_bit(button: Button) -> u8 {

@@ -1,7 +1,7 @@
 //! The sessions that the papers state, with the outputs that they state; and
 //! sessions for sentences of document 01, for questions, for the map of keys, for
-//! saved lines, for the months and for the right button with the mouse off, with
-//! outputs worked out by hand.
+//! saved lines, for the months, for the right button with the mouse off and for
+//! long moves, with outputs worked out by hand.
 //!
 //! Sessions are written on one line: `;` parts lines, a space stands for a tab,
 //! bare hex bytes are B lines, `*n` repeats what stands before it. Nothing
@@ -26,6 +26,7 @@ const KEYS: &str = include_str!("keys.txt");
 const SAVED: &str = include_str!("saved.txt");
 const MONTHS: &str = include_str!("months.txt");
 const FIRE: &str = include_str!("fire.txt");
+const MOVES: &str = include_str!("moves.txt");
 
 /// A session and what each of its lines gives.
 #[derive(Clone, Debug, PartialEq, Eq)]
@@ -70,8 +71,8 @@ impl Paper {
     }
 }
 
-/// Every session that the papers state for document 01: first its own, then
-/// those of the readings.
+/// Every session that the papers state for document 01, as requests amend it: first
+/// its own, then those of the readings.
 pub fn papers() -> Vec<Paper> {
     table(PAPERS)
 }
@@ -104,6 +105,11 @@ pub fn months() -> Vec<Paper> {
 /// Every session for request A4: first those of the readings.
 pub fn fire() -> Vec<Paper> {
     table(FIRE)
+}
+
+/// Every session for request A6: first the reading's.
+pub fn moves() -> Vec<Paper> {
+    table(MOVES)
 }
 
 fn table(text: &str) -> Vec<Paper> {

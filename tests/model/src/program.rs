@@ -96,8 +96,24 @@ pub fn session_head(line: &[u8]) -> Option<usize> {
 
 /// Plays every line of `input`.
 pub fn run(input: &mut dyn Read, output: &mut dyn Write, format: Format) -> io::Result<()> {
+    run_by(Rules::from_environment(), input, output, format)
+}
+
+/// What a program prints for a whole input.
+pub fn printed(mut input: &[u8], format: Format, rules: Rules) -> Vec<u8> {
+    let mut output = Vec::new();
+    run_by(rules, &mut input, &mut output, format).expect("a write to memory");
+    output
+}
+
+fn run_by(
+    rules: Rules,
+    input: &mut dyn Read,
+    output: &mut dyn Write,
+    format: Format,
+) -> io::Result<()> {
     let mut wire = Wire::new(input, output);
-    let mut player = Player::new(format, Rules::from_environment(), BUFFER);
+    let mut player = Player::new(format, rules, BUFFER);
     if format == Format::Text {
         wire.out.extend_from_slice(HEADER);
     }

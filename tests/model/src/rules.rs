@@ -1,8 +1,8 @@
 //! What a deliberately wrong variant changes: numbers of document 01, what
 //! becomes of held motion that is sent, the map of keys, saved lines, a month's
-//! length, the right button with the mouse off, and the packets that the host
-//! reads. A comparison that finds no difference, and a ledger that adds up, are
-//! worth something only if they find these.
+//! length, the right button with the mouse off, the packets that the host reads,
+//! and how a long move is split. A comparison that finds no difference, and a
+//! ledger that adds up, are worth something only if they find these.
 
 use crate::controller::{Answer, Refusal};
 use crate::keys::{Keys, LAST};
@@ -11,10 +11,23 @@ use crate::limits::{HELD_LIMIT, QUEUE_ROOM};
 mod fire;
 mod receiver;
 mod saved;
+mod splitting;
 
 pub use fire::FireFault;
 pub use receiver::ReceiverFault;
 pub use saved::SavedFault;
+pub use splitting::SplitFault;
+
+/// What sends held motion.
+#[derive(Clone, Copy, Debug, PartialEq, Eq)]
+pub enum Occasion {
+    /// Motion that reaches a threshold.
+    Motion,
+    /// "A button with action 0 to 3 sends all held motion"
+    Button,
+    /// "then held motion that is due"
+    Resume,
+}
 
 /// What becomes of held motion that a button or a resume sends.
 #[derive(Clone, Copy, Debug, PartialEq, Eq)]
@@ -26,7 +39,7 @@ pub enum Sending {
     AndKept,
     /// It is dropped, and a packet without motion is sent.
     Dropped,
-    /// One packet takes what it can, and the rest is lost.
+    /// The first packet is sent, and the rest is lost.
     FirstPacket,
 }
 
@@ -83,6 +96,8 @@ pub struct Rules {
     pub fire_fault: Option<FireFault>,
     /// What is wrong with the host's side of the wire, if anything is.
     pub receiver_fault: Option<ReceiverFault>,
+    /// What is wrong with how a long move is split, if anything is.
+    pub split_fault: Option<SplitFault>,
 }
 
 impl Rules {
@@ -101,6 +116,7 @@ impl Rules {
         saved_fault: None,
         fire_fault: None,
         receiver_fault: None,
+        split_fault: None,
     };
 
     /// Variant `number`, wrong in one place; any other number is the documents.
@@ -120,7 +136,8 @@ impl Rules {
             36 => rules.november_end = 31,
             37 => rules.may_end = 32,
             38..=49 => rules.fire_fault = fire::wrong_with_the_fire_button(number),
-            50.. => rules.receiver_fault = receiver::wrong_with_the_receiver(number),
+            50..=60 => rules.receiver_fault = receiver::wrong_with_the_receiver(number),
+            61.. => rules.split_fault = splitting::wrong_with_splitting(number),
             _ => rules.saved_fault = saved::wrong_with_saved_lines(number),
         }
         rules
@@ -130,6 +147,15 @@ impl Rules {
     pub fn from_environment() -> Rules {
         let number = std::env::var("MODEL_WRONG").ok();
         Rules::wrong(number.and_then(|n| n.parse().ok()).unwrap_or(0))
+    }
+
+    /// What becomes of held motion that is sent.
+    pub fn sending(&self, occasion: Occasion) -> Sending {
+        match occasion {
+            Occasion::Motion => Sending::Once,
+            Occasion::Button => self.at_button,
+            Occasion::Resume => self.at_resume,
+        }
     }
 
     /// The byte of a key event.

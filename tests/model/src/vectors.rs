@@ -1,11 +1,11 @@
 //! Sessions with the length of their buffer, and their expected outputs: those
 //! of the papers, resumes with every length of buffer, bad input in every mode,
 //! sentences of document 01, questions, the map of keys, saved lines, the months,
-//! and the right button with the mouse off.
+//! the right button with the mouse off, and long moves.
 
 use crate::keys::{CODES, COUNT};
 use crate::limits::{BUFFER, HELD_LIMIT, QUEUE_ROOM};
-use crate::papers::{fire, keys, lines, months, papers, questions, saved, sentences, Paper};
+use crate::papers::{fire, keys, lines, months, moves, papers, questions, saved, sentences, Paper};
 use crate::program::{Format, Player};
 use crate::rules::Rules;
 
@@ -27,8 +27,10 @@ pub struct Session {
 const FROM_PAPERS: &str = "\
 The papers' own sessions. Every output line is stated by the papers. (Reading 9 \
 stands there by document 01 alone, with F0 in its line 4: A1 adds to it the \
-break of the key that is down. Reading 65 stands there with a later request; \
-without it its bytes are the same.)";
+break of the key that is down. Sessions 3 and 4 are as A6 has them. Reading 54 \
+stands there by document 01 alone, with F87F80F841C0 in its line 5: by A6 both \
+packets are F860A0. Reading 65 stands there with a later request; without it its \
+bytes are the same.)";
 
 const SHORT_BUFFERS: &str = "\
 A resume with a buffer of every length from 0 to 20. Paused, three keys go to \
@@ -89,6 +91,12 @@ papers state the outputs of 88 and 89, and of 114 that the trigger stays set and
 what lets it go; then its sentences and its refusals. Every other output line is \
 worked out by hand.";
 
+const MOVES: &str = "\
+Request A6, smooth long moves: first its reading, of which the papers state the \
+output; then its sentences, document 01's refusals of a long move, and last levels \
+and actions of the buttons. Sessions 3 and 4 above are its own too. Every other \
+output line is worked out by hand.";
+
 /// All sessions.
 pub fn groups() -> Vec<Group> {
     vec![
@@ -112,6 +120,7 @@ pub fn groups() -> Vec<Group> {
         group(SAVED, saved()),
         group(MONTHS, months()),
         group(FIRE, fire()),
+        group(MOVES, moves()),
     ]
 }
 
@@ -143,8 +152,8 @@ fn short_buffer(lent: usize) -> Paper {
     let session = "13; K 1E 1; K 1F 1; K 1E 0; M 64 -64 *3; 88; 11; K 1E 1";
     let output = match lent {
         0..=8 => "8:(4) 9:(4)",
-        9..=16 => "8:(4) 9:1E1F9EF87F80F841C0 10:1E",
-        _ => "8:1E1F9EF87F80F841C0F608000000000000 10:1E",
+        9..=16 => "8:(4) 9:1E1F9EF860A0F860A0 10:1E",
+        _ => "8:1E1F9EF860A0F860A0F608000000000000 10:1E",
     };
     Paper::new(&format!("buffer {lent}"), lent, session, output)
 }

@@ -7,32 +7,11 @@ use model::coverage::Coverage;
 use model::generator::{session, session_and_kinds};
 use model::keys::COUNT;
 use model::limits::{BUFFER, QUEUE_ROOM};
-use model::program::{session_head, Format, Player};
+use model::program::{printed, session_head, Format, Player};
 use model::rules::Rules;
 use model::saved::{LONGEST, SHORTEST};
 use model::spoil::KINDS;
 use model::text::BAD_LINE;
-
-fn played(session: &[u8], rules: Rules) -> Vec<u8> {
-    let mut player = Player::new(Format::Text, rules, BUFFER);
-    let mut out = Vec::new();
-    for line in session.split_inclusive(|&byte| byte == b'\n') {
-        player.play(line.strip_suffix(b"\n").unwrap_or(line), &mut out);
-    }
-    out
-}
-
-fn played_vectors(session: &[u8], rules: Rules) -> Vec<u8> {
-    let mut player = Player::new(Format::Vectors, rules, BUFFER);
-    let mut out = Vec::new();
-    for line in session.split(|&byte| byte == b'\n') {
-        match session_head(line) {
-            Some(lent) => player.restart(lent),
-            None => drop(player.play(line, &mut out)),
-        }
-    }
-    out
-}
 
 #[test]
 fn the_same_seed_gives_the_same_session() {
@@ -216,17 +195,21 @@ fn questions_are_asked_where_they_show_something() {
     assert!(good.iter().all(|&count| count > 50) && bad > 50);
 }
 
+/// Three are rare here, and are for the stored sessions: a day too many in May (37),
+/// a packet too many (65) and full packets at motion (69).
 #[test]
 fn the_wrong_variants_are_seen() {
     let text = session(1, 100_000, Format::Text);
-    let right = played(&text, Rules::DOCUMENT);
-    for number in (1..=15).chain([36]).chain(38..=48) {
-        assert!(played(&text, Rules::wrong(number)) != right, "{number}");
+    let right = printed(&text, Format::Text, Rules::DOCUMENT);
+    let shows = |number| printed(&text, Format::Text, Rules::wrong(number)) != right;
+    let long_moves = [61, 62, 63, 64, 66, 67, 68, 70];
+    for number in (1..=15).chain([36]).chain(38..=48).chain(long_moves) {
+        assert!(shows(number), "{number}");
     }
-    // The end of a May (37) does not show here, a short buffer (49) never, and what
-    // follows is wrong on the host's side.
-    for number in (16..=35).chain([0, 37]).chain(49..=61) {
-        assert!(played(&text, Rules::wrong(number)) == right, "{number}");
+    // No line of the text program tells the lamp, a saved line or a short buffer (16
+    // to 35, and 49); the next are wrong on the host's side; 0 and 71 are not wrong.
+    for number in (16..=35).chain(49..=60).chain([0, 71]) {
+        assert!(!shows(number), "{number}");
     }
 }
 
@@ -235,13 +218,11 @@ fn the_wrong_variants_are_seen() {
 #[test]
 fn the_wrong_variants_of_the_vectors_are_seen() {
     let text = session(1, 400_000, Format::Vectors);
-    let right = played_vectors(&text, Rules::DOCUMENT);
+    let right = printed(&text, Format::Vectors, Rules::DOCUMENT);
+    let shows = |number| printed(&text, Format::Vectors, Rules::wrong(number)) != right;
     let shown = (10..=35).filter(|number| ![27, 31].contains(number));
-    for number in shown.chain(38..=49) {
-        assert!(
-            played_vectors(&text, Rules::wrong(number)) != right,
-            "{number}"
-        );
+    for number in shown.chain(38..=49).chain(61..=70) {
+        assert!(shows(number), "{number}");
     }
-    assert!(played_vectors(&text, Rules::wrong(61)) == right);
+    assert!(!shows(71));
 }

@@ -80,9 +80,10 @@ fn a_button_sends_all_held_motion_while_paused_too() {
 #[test]
 fn a_resume_sends_what_is_due_in_as_many_packets_as_it_needs() {
     let held = "13; M 64 0; M 64 0; M 64 0";
-    let right = format!("{held}; 11 > F87F00F84100; R 1 > F90000");
+    let right = format!("{held}; 11 > F86000F86000; R 1 > F90000");
     assert_eq!(closed(&right), Ok(6));
-    assert!(does_not_add_up(&format!("{held}; 11 > F87F00")));
+    assert!(does_not_add_up(&format!("{held}; 11 > F86000")));
+    // 128 is no X.
     assert!(does_not_add_up(&format!("{held}; 11 > F88000F84000")));
     assert!(does_not_add_up(&format!("{held}; 11")));
 }

@@ -109,5 +109,5 @@ fn the_wrong_variants_of_the_receiver_are_seen() {
         assert_eq!(shows_in_strings(rules), in_strings, "{number}");
         assert_eq!(shows_in_sessions(rules), in_sessions, "{number}");
     }
-    assert_eq!(Rules::wrong(61), Rules::DOCUMENT);
+    assert_eq!(Rules::wrong(61).receiver_fault, None);
 }

@@ -4,7 +4,7 @@ use model::clock::Clock;
 use model::controller::{answer_number, step, Input};
 use model::joysticks::Joysticks;
 use model::limits::BUFFER;
-use model::papers::{fire, keys, lines, months, papers, questions, saved, sentences, Paper};
+use model::papers::{fire, keys, lines, months, moves, papers, questions, saved, sentences, Paper};
 use model::program::{run, Format, Player};
 use model::rules::Rules;
 use model::state::{JoystickMode, Role, State, Velocity};
@@ -21,7 +21,8 @@ fn text_program(input: &str, format: Format) -> String {
 #[test]
 fn every_session_gives_its_stated_output() {
     let (papers, sentences, questions) = (papers(), sentences(), questions());
-    let (keys, saved, months, fire) = (keys(), saved(), months(), fire());
+    let (keys, saved, months) = (keys(), saved(), months());
+    let (fire, moves) = (fire(), moves());
     assert_eq!(papers.len(), 17 + 78 + 7);
     assert_eq!(sentences.len(), 20);
     assert_eq!(questions.len(), 12);
@@ -29,7 +30,9 @@ fn every_session_gives_its_stated_output() {
     assert_eq!(saved.len(), 9 + 52);
     assert_eq!(months.len(), 2);
     assert_eq!(fire.len(), 4 + 29);
-    let stated = [papers, sentences, questions, keys, saved, months, fire].concat();
+    assert_eq!(moves.len(), 1 + 28);
+    let requests = [keys, saved, months, fire, moves].concat();
+    let stated = [papers, sentences, questions, requests].concat();
     for Paper { title, .. } in stated.iter().filter(|paper| !holds(paper)) {
         eprintln!("not as stated: {title}");
     }

@@ -29,7 +29,7 @@ pub enum ReceiverFault {
     LongerLine,
 }
 
-/// The variants from 50 on.
+/// The variants 50 to 60.
 pub(super) fn wrong_with_the_receiver(number: u32) -> Option<ReceiverFault> {
     Some(match number {
         50 => ReceiverFault::Break80,
