@@ -100,18 +100,19 @@ order-parts (negsuc a) (negsuc b) t = let h = leb→le b a t in omega arith
 pub at-most : {a b : ℤ} {p n q m : ℕ} → Differs a p n → Differs b q m → p + m ≤ q + n → a ≤ℤ b
 at-most {a} {b} {p} {n} {q} {m} h k e = let f = h .by in let g = k .by in record { le = parts-order a b (omega arith) }
 
+-- and back
+pub at-most-back : {a b : ℤ} {p n q m : ℕ} → Differs a p n → Differs b q m → a ≤ℤ b → p + m ≤ q + n
+at-most-back {a} {b} {p} {n} {q} {m} h k e = let f = h .by in let g = k .by in let t = order-parts a b (e .le) in omega arith
+
 parts-strict : (a b : ℤ) → above a + below b < above b + below a → T (ltZ a b)
 parts-strict (pos a) (pos b) e = lt→ltb a b (omega arith)
 parts-strict (pos a) (negsuc b) e = absurd (omega arith)
 parts-strict (negsuc a) (pos b) e = tt
 parts-strict (negsuc a) (negsuc b) e = lt→ltb b a (omega arith)
 
+-- and so is their strict order
 pub less-than : {a b : ℤ} {p n q m : ℕ} → Differs a p n → Differs b q m → p + m < q + n → a <ℤ b
 less-than {a} {b} {p} {n} {q} {m} h k e = let f = h .by in let g = k .by in record { lt = parts-strict a b (omega arith) }
-
--- and back
-pub at-most-back : {a b : ℤ} {p n q m : ℕ} → Differs a p n → Differs b q m → a ≤ℤ b → p + m ≤ q + n
-at-most-back {a} {b} {p} {n} {q} {m} h k e = let f = h .by in let g = k .by in let t = order-parts a b (e .le) in omega arith
 
 -- one of the parts is 0
 pub one-part : (z : ℤ) → min (above z) (below z) ≡ 0

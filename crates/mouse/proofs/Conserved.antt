@@ -143,18 +143,18 @@ presses-conserve a σ side down m =
     (λ t.
     both-ways (Keeps a m) (live σ) (λ l. live-button-keeps a (σ .mouse) (σ .action) side down now ∙ same) (λ l. nothing-said a _ refl ∙ same))
 
--- a split has as many packets as it is asked for
-from-length : (rest n k levels : ℕ) (d : Motions) → length (split-from rest n k levels d) ≡ rest
+-- there are as many packets as are asked for
+from-count : (rest n k levels : ℕ) (d : Motions) → length (split-from rest n k levels d) ≡ rest
 unfolding split-from
-from-length zero n k levels d = refl
-from-length (suc rest) n k levels d = ap suc (from-length rest n (k + 1) levels d)
+from-count zero n k levels d = refl
+from-count (suc rest) n k levels d = ap suc (from-count rest n (k + 1) levels d)
 
 changed : (down : Bool) → cond down (not down) (not (not down)) ≡ false
 changed true = refl
 changed false = refl
 
 sends-least : (least : ℕ) (m : Mouse) → 1 ≤ least → 1 ≤ length (packets-due (send-all least m))
-sends-least least m h = rw (all-due least m, from-length) (omega arith)
+sends-least least m h = rw (all-due least m, from-count) (omega arith)
 
 -- a live button in relative mode, whose level changes and which is no key, sends a packet at least
 pub button-sends : (σ : Settings) (side : Side) (down : Bool) (m : Mouse) → σ .mouse ≡ Relative → live σ ≡ true → level side m ≡ not down → (σ .action ≡ as-keys → ⊥) → 1 ≤ length (packets-due (presses σ side down m))
