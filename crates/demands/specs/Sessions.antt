@@ -82,7 +82,7 @@ AllGo lent (x ∷ xs) = Goes lent power-up x × AllGo lent xs
 abbrev pub single : List Input → List ℕ → List Stretch
 single is bs = gives is bs ∷ []
 
--- the twelve, "as one table under one statement", each under its line of document 01
+-- the twelve, "as one table under one statement", each under its line of document 01; 3 and 4 give what document 02, A6, has for them
 unfoldable pub sessions : List (List Stretch)
 sessions =
     -- 1. M 0 0: nothing.

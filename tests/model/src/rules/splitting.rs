@@ -92,9 +92,10 @@ fn steps(totals: [i32; 2], count: i32, divided: impl Fn(i32, i32) -> i32) -> Par
 
 fn rest_in_last(totals: [i32; 2]) -> Parts {
     let count = packets_for(totals);
-    let mut parts = vec![totals.map(|total| total / count); count as usize];
+    let each = |total: i32| total.div_euclid(count);
+    let mut parts = vec![totals.map(each); count as usize];
     if let Some(last) = parts.last_mut() {
-        *last = totals.map(|total| total / count + total % count);
+        *last = totals.map(|total| each(total) + total.rem_euclid(count));
     }
     parts
 }
