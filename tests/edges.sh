@@ -10,7 +10,8 @@ gives "a line feed alone is a bad line" '\n' '1\t9\t-\n'
 gives "the last line may lack its line feed" 'T\nK\t1E\t1' '1\t0\t-\n2\t0\t1E\n'
 gives "a NUL byte makes a line bad" 'T\0\n\0\n\0T\nB\t1\0003\nT' '1\t9\t-\n2\t9\t-\n3\t9\t-\n4\t9\t-\n5\t0\t-\n'
 gives "a carriage return makes a line bad" 'T\r\nK\t1E\t1\r\n\r\nK\t1E\t1' '1\t9\t-\n2\t9\t-\n3\t9\t-\n4\t0\t1E\n'
-gives "questions are bad lines here" 'B\t13\nK\t1E\t1\n?\tqueue\n?\nB\t11' '1\t0\t-\n2\t0\t-\n3\t9\t-\n4\t9\t-\n5\t0\t1E\n'
+gives "questions are bad lines here" 'B\t13\nK\t1E\t1\n?\tqueue\n?\n?\tlook\n?\tclear\nB\t11' \
+    '1\t0\t-\n2\t0\t-\n3\t9\t-\n4\t9\t-\n5\t9\t-\n6\t9\t-\n7\t0\t1E\n'
 
 # The program and the model give the same for a file. Reads from a file come in whole blocks, those from a pipe do not.
 as_model() { timeout 60 target/bin/ikbd <"$1" | cmp - <("$models/model" <"$1"); }

@@ -11,7 +11,7 @@ name="ikbd sends every total of an axis up to $(with_comma "$held_limit") either
 [[ $said == "64356 moves in 767650 packets; "* ]] && [ "$status" -eq 0 ]
 count "$name" $?
 
-# The model's last wrong variants are found by a comparison, by the laws, by what the model prints and by the stored
+# The model's next wrong variants are found by a comparison, by the laws, by what the model prints and by the stored
 # sessions.
 moves_differ() { # what is judged first, what the report says
     local said

@@ -10,4 +10,5 @@ pub mod Results
 pub mod Tells
 pub mod Hosts
 pub mod Writers
+pub mod Looking
 pub mod Applying

@@ -1,6 +1,7 @@
 mod apply;
 mod command;
 mod event;
+mod look;
 mod send;
 mod step;
 
@@ -12,6 +13,8 @@ ghost use Rattle.controller.specs.Step.{number};
 ghost use Rattle.controller.specs.Applying.{core-of, joined};
 use clock::Clock;
 use keys::Keys;
+pub use look::Look;
+pub use look::Looked;
 use mouse::Mouse;
 use mouse::Side;
 use output::Short;

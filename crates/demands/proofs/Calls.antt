@@ -18,7 +18,7 @@ use Rattle.controller.specs.declared.State.{State}
 use Rattle.controller.specs.declared.Input.{Input}
 use Rattle.controller.specs.declared.Input.the-variants.{Byte, Button}
 use Rattle.controller.specs.State.{IsState, power-up, contents}
-use Rattle.controller.specs.Step.{Out, Did, due, step}
+use Rattle.controller.specs.Step.{Out, Did, step}
 use Rattle.controller.specs.Sequences.{after, history, done, resets-by}
 use Rattle.controller.proofs.Answers.{step-fits, did-answer, did-write}
 use Rattle.controller.proofs.Delivery.{step-drops}
@@ -143,7 +143,7 @@ reset-names-calls s t cs c h p resets taken =
     ∙ ap (λ (h : List Seen). 0xF0 ∷ map break-of (down-keys s h)) (sym (r .seen-then))
 
 -- the promise of a call whose input is known
-promised : {s : State} {c : Call} {i : Input} → c .input ≡ i → Promised s c → Did s i (c .before) (c .result) (c .buffer)
+pub promised : {s : State} {c : Call} {i : Input} → c .input ≡ i → Promised s c → Did s i (c .before) (c .result) (c .buffer)
 promised {s} {c} e p = subst (λ (i : Input). Did s i (c .before) (c .result) (c .buffer)) e p
 
 -- A4, for calls of the step in code
@@ -162,7 +162,7 @@ right-button-fires-calls s down b c h g p q eb ec same =
     }
 
 -- a call whose step is taken and writes nothing
-wrote-nothing : {s : State} {i : Input} {c : Call} → Did s i (c .before) (c .result) (c .buffer) → step s i (length (c .before)) .answer ≡ 0 →
+pub wrote-nothing : {s : State} {i : Input} {c : Call} → Did s i (c .before) (c .result) (c .buffer) → step s i (length (c .before)) .answer ≡ 0 →
     step s i (length (c .before)) .written ≡ [] → WroteNothing c
 wrote-nothing {s} {i} {c} d a w = record {
   taken = did-answer s i d ∙ a;

@@ -8,7 +8,10 @@ pub mod Conservation
 pub mod StuckKeys
 pub mod FireButton
 pub mod Cutting
+pub mod Look
+pub mod ButtonReports
 pub mod Calls
+pub mod LookCalls
 pub mod Witness3
 pub mod Rules
 pub mod Sessions
@@ -17,6 +20,7 @@ pub mod MotionWitness
 pub mod Readings
 pub mod KeyReadings
 pub mod FireReadings
+pub mod LookReadings
 pub mod CuttingReadings
 pub mod Idling
 pub mod ShutOut

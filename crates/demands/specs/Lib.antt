@@ -6,6 +6,8 @@ pub mod Conservation
 pub mod StuckKeys
 pub mod FireButton
 pub mod Cutting
+pub mod Look
 pub mod Calls
+pub mod LookCalls
 pub mod Sessions
 pub mod ShutOut

@@ -27,7 +27,7 @@ use Rattle.mouse.specs.declared.Mouse.{Mouse}
 use Rattle.mouse.specs.declared.Side.{Side}
 use Rattle.mouse.specs.declared.Side.the-variants.{Left, Right}
 use Rattle.mouse.specs.Mouse.{IsMouse, OneMouse, live, gathers, held-limit, held-usual, held-most, maximum-of, with-held, at-power-up}
-use Rattle.mouse.specs.Reports.{MouseDue, send-all}
+use Rattle.mouse.specs.Reports.{MouseDue, send-all, cleared}
 use Rattle.mouse.specs.Moves.{incoming, added-to-held, either-reaches, quotients, send-deltas, coordinates-moved, motion-due, released, live-motion, moves, overflows, negates-dy}
 use Rattle.mouse.specs.Buttons.{with-level, unchanged, live-button, presses, as-keys, action-reports, with-latch}
 use Rattle.mouse.specs.Commands.{commanded, switched-off}
@@ -293,6 +293,12 @@ pause-is false σ m g = good (widen (least-most true σ) (rw (unpaused-most σ) 
 anew : {most : ℕ} {p q : Point} {m : Mouse} → Within most p m → Within held-usual q (with-held (record { x = record { plus = 0; minus = 0 }; y = record { plus = 0; minus = 0 } }) (record { place = record { x = 0; y = 0 }; held = m .held; left = m .left; right = m .right; latches = m .latches }))
 anew w = record { x = omega arith; y = omega arith; held-x = omega arith; held-y = omega arith; one-x = refl; one-y = refl }
 
+-- The clearing keeps the mouse good, paused or not.
+pub cleared-is : {paused : Bool} {σ : Settings} {m : Mouse} → GoodMouse paused σ m → GoodMouse paused σ (cleared m)
+cleared-is g =
+    let w = within g in
+    good (record { x = w .x; y = w .y; held-x = w .held-x; held-y = w .held-y; one-x = w .one-x; one-y = w .one-y })
+
 -- An executed command of the mouse, after the resume.
 pub commanded-is : (c : MouseCommand) (ps : List ℕ) (σ : Settings) (m : Mouse) → GoodMouse false σ m →
     GoodMouse false (mouse-sets c ps σ) (commanded c ps (σ .mouse) m .mouse)
@@ -303,9 +309,7 @@ commanded-is SetAbsolute ps σ m g = good (anew (within g))
 commanded-is SetKeycode ps σ m g = good (anew (within g))
 commanded-is SetThreshold ps σ m g = same-mode-is σ (mouse-sets SetThreshold ps σ) m refl g
 commanded-is SetScale ps σ m g = same-mode-is σ (mouse-sets SetScale ps σ) m refl g
-commanded-is ReportPosition ps σ m g =
-    let w = within g in
-    good (record { x = w .x; y = w .y; held-x = w .held-x; held-y = w .held-y; one-x = w .one-x; one-y = w .one-y })
+commanded-is ReportPosition ps σ m g = cleared-is g
 commanded-is LoadPosition ps σ m g =
     let w = within g in
     good (record { x = omega arith; y = omega arith; held-x = w .held-x; held-y = w .held-y; one-x = w .one-x; one-y = w .one-y })

@@ -7,8 +7,8 @@ use Rattle.protocol.specs.declared.MouseCommand.{MouseCommand}
 use Rattle.protocol.specs.declared.MouseCommand.the-variants.{SetAction, SetRelative, SetAbsolute, SetKeycode, SetThreshold, SetScale, ReportPosition, LoadPosition, OriginBottom, OriginTop}
 use Rattle.protocol.specs.Commands.{point-at}
 use Rattle.mouse.specs.declared.Mouse.{Mouse}
-use Rattle.mouse.specs.Mouse.{origin, maximum-of, no-latches, with-place, with-latches, without-motion}
-use Rattle.mouse.specs.Reports.{MouseDue, quiet, one-packet, report}
+use Rattle.mouse.specs.Mouse.{origin, maximum-of, with-place, without-motion}
+use Rattle.mouse.specs.Reports.{MouseDue, quiet, one-packet, report, cleared}
 
 -- "0x08, 0x09, 0x0A ... clear held motion, zero the coordinates"
 abbrev pub started-anew : Mouse → Mouse
@@ -18,7 +18,7 @@ started-anew m = with-place origin (without-motion m)
 abbrev pub loaded : Point → List ℕ → Mouse → Mouse
 loaded maximum ps m = with-place (record { x = min (maximum .x) (point-at 1 ps .x); y = min (maximum .y) (point-at 1 ps .y) }) m
 
--- "0x0D sends 0xF7, ... and clears the latches"
+-- "0x0D sends 0xF7, ... and clears the latches": A7's look and its clearing, "one after the other"
 unfoldable pub commanded : MouseCommand → List ℕ → MouseMode → Mouse → MouseDue
 commanded SetAction ps mode m = quiet m
 commanded SetRelative ps mode m = quiet (started-anew m)
@@ -26,7 +26,7 @@ commanded SetAbsolute ps mode m = quiet (started-anew m)
 commanded SetKeycode ps mode m = quiet (started-anew m)
 commanded SetThreshold ps mode m = quiet m
 commanded SetScale ps mode m = quiet m
-commanded ReportPosition ps mode m = one-packet (report m) (with-latches no-latches m)
+commanded ReportPosition ps mode m = one-packet (report m) (cleared m)
 commanded LoadPosition ps mode m = quiet (loaded (maximum-of mode) ps m)
 commanded OriginBottom ps mode m = quiet m
 commanded OriginTop ps mode m = quiet m

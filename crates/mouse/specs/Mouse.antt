@@ -57,7 +57,7 @@ pub record OneMouse (m : Mouse) : Type 0 where
   pub x : OneSided (m .held .x)
   pub y : OneSided (m .held .y)
 
--- no latch is set: at power-up ("all else zero"), and after 0x0D, which "clears the latches"
+-- no latch is set: at power-up ("all else zero"), and after 0x0D, which "clears the latches", or A7's clearing
 abbrev pub no-latches : Latches
 no-latches = record { rightdown = false; rightup = false; leftdown = false; leftup = false }
 

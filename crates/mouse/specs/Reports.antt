@@ -1,4 +1,5 @@
--- What something that happens to the mouse leads to, and two things that it can be: all held motion sent, and the absolute report (document 01, "The mouse").
+-- What something that happens to the mouse leads to, and two things that it can be: all held motion sent, and the absolute report (document 01, "The mouse"),
+-- which A7 parts from the clearing.
 use Prim.Native.Nat.{ℕ, _+_, _*_, max}
 use mathlib.Core.List.{List, [], _∷_, _++_}
 use Rattle.output.specs.Packets.{Packet, position, bit}
@@ -6,7 +7,7 @@ use Rattle.motion.specs.Motion.{at-rest}
 use Rattle.mouse.specs.declared.Latches.{Latches}
 use Rattle.mouse.specs.declared.Mouse.{Mouse}
 use Rattle.mouse.specs.declared.Sending.{Sending}
-use Rattle.mouse.specs.Mouse.{without-motion}
+use Rattle.mouse.specs.Mouse.{no-latches, with-latches, without-motion}
 use Rattle.mouse.specs.Sending.{packets-for, packets-sent, nothing-sent}
 
 -- what something that happens to the mouse leads to: what is sent of held motion, the packets that follow it, and the mouse afterwards
@@ -45,6 +46,10 @@ send-all least m = record {
 abbrev pub latch-byte : Latches → ℕ
 latch-byte l = bit (l .rightdown) + 2 * bit (l .rightup) + 4 * bit (l .leftdown) + 8 * bit (l .leftup)
 
--- "0xF7, latches, X, Y high byte first"
+-- "0xF7, latches ..., X, Y high byte first": what 0x0D and a button report, and what A7's look shows
 unfoldable pub report : Mouse → Packet
 report m = position (latch-byte (m .latches)) (m .place .x) (m .place .y)
+
+-- A7: "a clearing, which only empties the latches"
+abbrev pub cleared : Mouse → Mouse
+cleared m = with-latches no-latches m

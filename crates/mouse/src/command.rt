@@ -1,14 +1,10 @@
-// The mouse's commands, and the report of absolute mode.
+// The mouse's commands.
 ghost use mathlib.Core.Path.{_≡_};
-ghost use Prim.Native.Nat.{_+_, _*_};
-ghost use Rattle.output.specs.Packets.{bytes-of};
-ghost use Rattle.output.specs.Short.{short-of};
-ghost use Rattle.mouse.specs.Mouse.{maximum-of, no-latches, with-latches, without-motion};
-ghost use Rattle.mouse.specs.Reports.{quiet, latch-byte, report};
+ghost use Rattle.mouse.specs.Mouse.{maximum-of, without-motion};
+ghost use Rattle.mouse.specs.Reports.{quiet};
 ghost use Rattle.mouse.specs.Commands.{started-anew, loaded, commanded, switched-off};
 ghost use Rattle.mouse.specs.Handing.{commanded-of};
 use crate::Commanded;
-use crate::Latches;
 use crate::Mouse;
 use motion::Motions;
 use output::Short;
@@ -29,7 +25,7 @@ impl Mouse {
             MouseCommand::SetScale => self.silent(),
             MouseCommand::ReportPosition => Commanded {
                 short: self.report(),
-                mouse: self.without_latches(),
+                mouse: self.cleared(),
             },
             MouseCommand::LoadPosition => self.loaded(maximum_of(mode), params).silent(),
             MouseCommand::OriginBottom => self.silent(),
@@ -70,13 +66,6 @@ impl Mouse {
         self.without_motion()
     }
 
-    fn without_latches(mut self) -> Self
-        ensures { λ r. ⌜ r ≡ with-latches no-latches self ⌝ }
-    {
-        self.latches = Latches::none();
-        self
-    }
-
     // 0x0E, held to the maximum; its first parameter is a filler.
     fn loaded(mut self, maximum: Point, params: [u8; 6]) -> Self
         ensures { λ r. ⌜ r ≡ loaded maximum params self ⌝ }
@@ -87,28 +76,6 @@ impl Mouse {
         };
         self.place = place;
         self
-    }
-
-    // What 0x0D reports: high bytes first.
-    pub(crate) fn report(self) -> Short
-        ensures { λ r. ⌜ r ≡ short-of (bytes-of (report self)) ⌝ }
-    {
-        let x = self.place.x;
-        let y = self.place.y;
-        let l = latch_byte(self.latches);
-        Short {
-            bytes: [
-                0xF7,
-                l,
-                (x / 256) as u8,
-                (x % 256) as u8,
-                (y / 256) as u8,
-                (y % 256) as u8,
-                0,
-                0,
-            ],
-            len: 6,
-        }
     }
 }
 
@@ -121,11 +88,4 @@ fn maximum_of(mode: MouseMode) -> Point
         MouseMode::Absolute { maximum } => maximum,
         MouseMode::Keycode { delta: _ } => Point { x: 0, y: 0 },
     }
-}
-
-// 1 right down, 2 right up, 4 left down, 8 left up.
-fn latch_byte(l: Latches) -> u8
-    ensures { λ r. ⌜ r ≡ latch-byte l ⌝ }
-{
-    l.rightdown as u8 + 2 * l.rightup as u8 + 4 * l.leftdown as u8 + 8 * l.leftup as u8
 }

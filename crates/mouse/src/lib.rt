@@ -9,9 +9,10 @@ use protocol::Settings;
 mod button;
 mod command;
 mod moving;
+mod report;
 mod send;
 
-// Which buttons went down or up, live in absolute mode, since the last 0x0D.
+// Which buttons went down or up, live in absolute mode, since the last 0x0D or clearing.
 pub struct Latches {
     pub rightdown: bool,
     pub rightup: bool,

@@ -5,6 +5,7 @@ ghost use lib.ListN.{length};
 ghost use Rattle.output.specs.Writing.{Wrote};
 ghost use Rattle.keys.specs.Keys.{held};
 ghost use Rattle.controller.specs.State.{IsState, contents};
+ghost use Rattle.controller.specs.Look.{look};
 ghost use Rattle.text.specs.Output.{line-room, output-line};
 use controller::State;
 
@@ -27,4 +28,14 @@ pub fn tell_lamp(state: State, number: u64, out: &mut [u8]) -> usize
 {
     let shown = [state.lamp()];
     text::write_line(number, 0, &shown, 1, out)
+}
+
+// The line of output that tells what a look comes to, into as much of a buffer as is lent.
+pub fn tell_look(state: State, number: u64, lent: &mut [u8], out: &mut [u8]) -> usize
+    requires { ⌜ line-room (length (now lent)) ≤ length (now out) ⌝ }
+    ensures { λ r. ⌜ (let v = look state (length (now (lent .entry))) in Wrote (output-line number (v .answer) (v .written)) r (now (out .entry)) (now (out .exit))) ⌝ }
+{
+    let seen = state.look(lent);
+    let answer = seen.answer;
+    text::write_line(number, answer.number(), lent, seen.count, out)
 }

@@ -15,6 +15,7 @@ mod ask;
 mod lines;
 
 pub use ask::tell_lamp;
+pub use ask::tell_look;
 pub use ask::tell_queue;
 pub use lines::Fed;
 pub use lines::Session;

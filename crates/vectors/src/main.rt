@@ -1,9 +1,9 @@
 // Plays sessions with buffers of any length. A line `=`, a tab and a number begins a session from power-up in which that many bytes
-// are lent with every input; it is printed as it stands. A line `?`, a tab and a word asks for something that no input tells, and
-// changes nothing: `queue` for the bytes that wait, `lamp` for how many keys are held, `save` for the saved line, into the lent buffer. After
-// `?`, a tab, `load`, a tab and bytes in hexadecimal the session goes on from the state that these bytes are the saved line of, or from
-// power-up where they are the line of none. For every line its number in the session, the answer and the bytes are printed, as the text
-// program prints them.
+// are lent with every input; it is printed as it stands. A line `?`, a tab and a word is a door for what no input tells or does. Four
+// words ask and change nothing: `queue` for the bytes that wait, `lamp` for how many keys are held, and, into the lent buffer, `look` for
+// the report of absolute mode and `save` for the saved line. Two change the state: `clear` empties the latches; and after `load`, a tab
+// and bytes in hexadecimal the session goes on from the state that these bytes are the saved line of, or from power-up where they are the
+// line of none. For every line its number in the session, the answer and the bytes are printed, as the text program prints them.
 ghost use mathlib.Core.Path.{_≡_};
 ghost use Prim.Native.Nat.{_+_, _≤_, _<_, _^_};
 ghost use lib.ListN.{length};
@@ -31,11 +31,13 @@ pub struct Session {
     pub lent: usize,
 }
 
-// What no input tells: the bytes that wait, or how many keys are held.
+// What no input tells: the bytes that wait, how many keys are held, the report of absolute mode, or the saved line.
 pub enum Question {
     None,
     Queue,
     Lamp,
+    Look,
+    Save,
 }
 
 // What a line came to: the session behind it, and how many bytes were printed.
@@ -141,6 +143,12 @@ fn question_in(line: &[u8]) -> Question {
     if asks(line, b"lamp") {
         return Question::Lamp;
     }
+    if asks(line, b"look") {
+        return Question::Look;
+    }
+    if asks(line, b"save") {
+        return Question::Save;
+    }
     Question::None
 }
 
@@ -149,20 +157,41 @@ fn is_asked(question: Question) -> bool {
         Question::None => false,
         Question::Queue => true,
         Question::Lamp => true,
+        Question::Look => true,
+        Question::Save => true,
     }
 }
 
 // The line of output that answers a question; none for none.
-fn answer_question(question: Question, state: State, number: u64, out: &mut [u8]) -> usize
+fn answer_question(
+    question: Question,
+    state: State,
+    number: u64,
+    lent: &mut [u8],
+    out: &mut [u8],
+) -> usize
     requires { ⌜ IsState state ⌝ }
-    requires { ⌜ line-room queue-room ≤ length (now out) ⌝ }
+    requires { ⌜ (line-room queue-room ≤ length (now out)) × (line-room (length (now lent)) ≤ length (now out)) ⌝ }
     ensures { λ r. ⌜ r ≤ length (now (out .entry)) ⌝ }
 {
     match question {
         Question::None => 0,
         Question::Queue => session::tell_queue(state, number, out),
         Question::Lamp => session::tell_lamp(state, number, out),
+        Question::Look => session::tell_look(state, number, lent, out),
+        Question::Save => tell_saved(state, number, lent, out),
     }
+}
+
+// The saved line, into as much of a buffer as is lent.
+fn tell_saved(state: State, number: u64, lent: &mut [u8], out: &mut [u8]) -> usize
+    requires { ⌜ IsState state ⌝ }
+    requires { ⌜ line-room (length (now lent)) ≤ length (now out) ⌝ }
+    ensures { λ r. ⌜ r ≤ length (now (out .entry)) ⌝ }
+{
+    let done = saved::write(state, lent);
+    let answer = done.answer;
+    text::write_line(number, answer.number(), lent, done.count, out)
 }
 
 // Whether a line begins with these bytes.
@@ -236,20 +265,14 @@ fn bytes_in(line: &[u8], out: &mut [u8]) -> usize
     count
 }
 
-// The saved line, into as much of the buffer as is lent.
-fn save(session: Session, lent: &mut [u8], out: &mut [u8]) -> Printed
-    requires { ⌜ IsState (session .state) ⌝ }
+// The session goes on from this state, with the next line.
+fn go_on(session: Session, state: State, count: usize) -> Printed
+    requires { ⌜ IsState state ⌝ }
     requires { ⌜ session .number + 1 < 2 ^ 64 ⌝ }
-    requires { ⌜ line-room (length (now lent)) ≤ length (now out) ⌝ }
     ensures { λ r. ⌜ IsState (r .session .state) ⌝ }
     ensures { λ r. ⌜ r .session .number ≤ session .number + 1 ⌝ }
-    ensures { λ r. ⌜ r .count ≤ length (now (out .entry)) ⌝ }
+    ensures { λ r. ⌜ r .count ≡ count ⌝ }
 {
-    let state = session.state;
-    let room = smaller(session.lent, lent.len());
-    let done = saved::write(state, &mut lent[..room]);
-    let answer = done.answer;
-    let count = text::write_line(session.number, answer.number(), lent, done.count, out);
     Printed {
         session: Session {
             state: state,
@@ -258,6 +281,20 @@ fn save(session: Session, lent: &mut [u8], out: &mut [u8]) -> Printed
         },
         count: count,
     }
+}
+
+// The session goes on with empty latches.
+fn clear(session: Session, lent: &[u8], out: &mut [u8]) -> Printed
+    requires { ⌜ IsState (session .state) ⌝ }
+    requires { ⌜ session .number + 1 < 2 ^ 64 ⌝ }
+    requires { ⌜ line-room (length (now lent)) ≤ length (now out) ⌝ }
+    ensures { λ r. ⌜ IsState (r .session .state) ⌝ }
+    ensures { λ r. ⌜ r .session .number ≤ session .number + 1 ⌝ }
+    ensures { λ r. ⌜ r .count ≤ length (now (out .entry)) ⌝ }
+{
+    let state = session.state;
+    let count = text::write_line(session.number, 0, lent, 0, out);
+    go_on(session, state.cleared(), count)
 }
 
 // The session goes on from the state that the bytes in a line are the saved line of, or from power-up.
@@ -273,14 +310,7 @@ fn load(session: Session, line: &[u8], lent: &mut [u8], out: &mut [u8]) -> Print
     let answer = loaded.answer;
     let state = loaded.state;
     let count = text::write_line(session.number, answer.number(), lent, 0, out);
-    Printed {
-        session: Session {
-            state: state,
-            number: session.number + 1,
-            lent: session.lent,
-        },
-        count: count,
-    }
+    go_on(session, state, count)
 }
 
 fn smaller(a: usize, b: usize) -> usize
@@ -310,36 +340,22 @@ fn print(session: Session, text: &[u8], n: usize, lent: &mut [u8], out: &mut [u8
             };
         }
     }
-    let before = session.state;
-    let question = question_in(line);
-    if is_asked(question) {
-        let count = answer_question(question, before, session.number, out);
-        return Printed {
-            session: Session {
-                state: before,
-                number: session.number + 1,
-                lent: session.lent,
-            },
-            count: count,
-        };
-    }
-    if asks(line, b"save") {
-        return save(session, lent, out);
+    if asks(line, b"clear") {
+        return clear(session, lent, out);
     }
     if loads(line) {
         return load(session, line, lent, out);
     }
+    let state = session.state;
     let room = smaller(session.lent, lent.len());
-    let played = session::play(before, session.number, text, &mut lent[..room], out);
-    let after = played.state;
-    Printed {
-        session: Session {
-            state: after,
-            number: session.number + 1,
-            lent: session.lent,
-        },
-        count: played.count,
+    let question = question_in(line);
+    if is_asked(question) {
+        let count = answer_question(question, state, session.number, &mut lent[..room], out);
+        return go_on(session, state, count);
     }
+    let played = session::play(state, session.number, text, &mut lent[..room], out);
+    let after = played.state;
+    go_on(session, after, played.count)
 }
 
 // The lines that end in a block. A write that fails ends the program.

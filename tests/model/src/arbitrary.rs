@@ -138,7 +138,7 @@ fn mouse_settings(random: &mut Random) -> Mouse {
 /// "held motion is -254 to 254, and beyond that, to 2,032 either way, only while
 /// paused with the mouse live in relative or keycode mode"
 fn held(random: &mut Random, state: &State) -> i32 {
-    let absolute = matches!(state.mouse.mode, MouseMode::Absolute { .. });
+    let absolute = state.mouse.mode.is_absolute();
     let limit = match state.paused && state.mouse_is_live() && !absolute {
         true => HELD_LIMIT,
         false => 254,

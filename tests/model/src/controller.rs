@@ -3,6 +3,7 @@
 
 use crate::command::Command;
 use crate::keys::CODES;
+use crate::look::clear;
 use crate::mouse::Button;
 use crate::rules::Occasion;
 use crate::state::{JoystickMode, MouseMode, Role, State, Velocity};
@@ -32,7 +33,7 @@ pub enum Input {
     Tick,
 }
 
-/// "the four refusals"
+/// "the four refusals" of an input, and the one that only a look meets.
 #[derive(Clone, Copy, Debug, PartialEq, Eq)]
 pub enum Refusal {
     /// "an event's number is outside its range"
@@ -44,6 +45,8 @@ pub enum Refusal {
     MotionFull = 3,
     /// "the bytes due now are more than the lent buffer's length"
     NoRoom = 4,
+    /// Request A7: "7, exactly when the panel looks outside absolute mode"
+    NotAbsolute = 7,
 }
 
 pub type Answer = Result<(), Refusal>;
@@ -159,7 +162,11 @@ impl State {
         mouse.toggle(button);
         if self.mouse_is_live() {
             mouse.button(button, down, &self.rules, out);
-            self.deliver(lent, out)?;
+            let rules = self.rules;
+            rules.after_button(self, out, &mut mouse);
+            self.deliver(lent, out).inspect_err(|&refusal| {
+                rules.after_refused_button(refusal, mouse.latches, &mut self.mouse);
+            })?;
         }
         self.mouse = mouse;
         Ok(())
@@ -264,7 +271,8 @@ impl State {
     fn is_executed(&self, command: &Command) -> bool {
         match command.code() {
             0x07 => command.parameter(0) <= 4,
-            0x0D | 0x0E => matches!(self.mouse.mode, MouseMode::Absolute { .. }),
+            0x0D => self.rules.interrogates(self.mouse.mode),
+            0x0E => self.mouse.mode.is_absolute(),
             0x16 => self.joysticks.answers_interrogation(),
             0x08..=0x1C => true,
             0x87..=0x8C | 0x8F | 0x90 | 0x92 | 0x94..=0x96 | 0x99 | 0x9A => {
@@ -278,7 +286,8 @@ impl State {
     /// first resumes: the queue is written, then held motion that is due (if
     /// the mouse is live), and only then the command acts."
     fn execute(&mut self, command: &Command, lent: usize, out: &mut Vec<u8>) -> Answer {
-        let resumes = self.paused && command.code() != 0x13;
+        let code = command.code();
+        let resumes = self.paused && code != 0x13 && self.rules.resumes(code);
         let mut mouse = self.mouse;
         if resumes {
             out.extend_from_slice(self.queue.bytes());
@@ -286,8 +295,9 @@ impl State {
                 mouse.send_due(Occasion::Resume, &self.rules, out);
             }
         }
-        self.push_answer(command.code(), out);
-        check_room(lent, out)?;
+        self.push_answer(code, out);
+        let rules = self.rules;
+        check_room(lent, out).inspect_err(|_| rules.after_refused(code, &mut self.mouse))?;
         if resumes {
             self.mouse = mouse;
             self.queue.clear();
@@ -300,7 +310,8 @@ impl State {
     /// The bytes that a command itself sends.
     fn push_answer(&self, code: u8, out: &mut Vec<u8>) {
         match code {
-            0x0D => self.mouse.push_report(out),
+            // Request A7: "then is one after the other", first the look.
+            0x0D => out.extend_from_slice(&self.rules.interrogated(&self.mouse)),
             // Request A4: "Switching the mouse off sends nothing."
             0x12 if self.mouse.is_down(Button::Right) => {
                 self.rules.push_at_mouse_off(&self.joysticks, out);
@@ -346,7 +357,7 @@ impl State {
             }),
             0x0B => self.mouse.threshold = command.pair(0),
             0x0C => self.mouse.scale = command.pair(0),
-            0x0D => self.mouse.latches = 0, // "and clears the latches"
+            0x0D if self.rules.interrogation_clears() => clear(self), // the clearing
             0x0E => self.mouse.load(command.words(1)),
             0x0F => self.mouse.origin_bottom = true,
             0x10 => self.mouse.origin_bottom = false,
@@ -384,7 +395,7 @@ impl State {
     /// it a joystick."
     fn set_role(&mut self, code: u8) {
         match code {
-            0x07..=0x10 => self.port0 = Role::Mouse,
+            0x07..=0x10 if self.rules.makes_a_mouse(code) => self.port0 = Role::Mouse,
             0x14..=0x1A => self.port0 = Role::Joystick,
             _ => {}
         }

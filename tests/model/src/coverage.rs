@@ -6,6 +6,7 @@ use std::fmt;
 use crate::controller::Input;
 use crate::coverage::fire::FireCoverage;
 use crate::coverage::keys::KeyCoverage;
+use crate::coverage::look::LookCoverage;
 use crate::coverage::saved::SavedCoverage;
 use crate::limits::BUFFER;
 use crate::program::{session_head, Format, Player};
@@ -15,6 +16,8 @@ use crate::text::{parse, BAD_LINE};
 
 pub mod fire;
 pub mod keys;
+pub mod look;
+mod look_history;
 pub mod saved;
 
 const MOUSE_MODES: [&str; 3] = ["relative", "absolute", "keycode"];
@@ -76,11 +79,12 @@ pub struct Coverage {
     pub keys: KeyCoverage,
     pub saved: SavedCoverage,
     pub fire: FireCoverage,
+    pub look: LookCoverage,
 }
 
 impl Coverage {
-    pub fn of(session: &[u8], format: Format) -> Coverage {
-        let mut coverage = Coverage {
+    fn none() -> Coverage {
+        Coverage {
             answers: [0; 10],
             pairs: [[[0; 2]; 5]; 3],
             roles: [[[0; 2]; 2]; 2],
@@ -91,19 +95,41 @@ impl Coverage {
             keys: KeyCoverage::default(),
             saved: SavedCoverage::default(),
             fire: FireCoverage::default(),
-        };
+            look: LookCoverage::default(),
+        }
+    }
+
+    pub fn of(session: &[u8], format: Format) -> Coverage {
+        let mut coverage = Coverage::none();
+        coverage.add(session, format);
+        coverage
+    }
+
+    /// What sessions visit together, one after the other and each from power-up.
+    pub fn of_all(sessions: impl Iterator<Item = Vec<u8>>, format: Format) -> Coverage {
+        let mut coverage = Coverage::none();
+        sessions.for_each(|session| coverage.add(&session, format));
+        coverage
+    }
+
+    fn add(&mut self, session: &[u8], format: Format) {
         let mut player = Player::new(format, Rules::DOCUMENT, BUFFER);
+        self.start_session();
         for line in session.split_inclusive(|&byte| byte == b'\n') {
             let line = line.strip_suffix(b"\n").unwrap_or(line);
             match session_head(line) {
                 Some(lent) if format == Format::Vectors => {
                     player.restart(lent);
-                    coverage.fire.start_session();
+                    self.start_session();
                 }
-                _ => coverage.count(&mut player, line),
+                _ => self.count(&mut player, line),
             }
         }
-        coverage
+    }
+
+    fn start_session(&mut self) {
+        self.fire.start_session();
+        self.look.start_session();
     }
 
     fn count(&mut self, player: &mut Player, line: &[u8]) {
@@ -133,6 +159,7 @@ impl Coverage {
         self.keys.count(&line);
         self.saved.count(&line);
         self.fire.count(&line);
+        self.look.count(&line);
     }
 
     fn count_command(&mut self, before: &State, after: &State, byte: u8) {
@@ -210,13 +237,14 @@ impl fmt::Display for Coverage {
                 )?;
             }
         }
-        write!(f, "{}{}{}", self.keys, self.saved, self.fire)
+        write!(f, "{}{}", self.keys, self.saved)?;
+        write!(f, "{}{}", self.fire, self.look)
     }
 }
 
-/// The counts of the answers that there are: 0 to 5 and 9.
+/// The counts of the answers that there are: 0 to 5, 7 and 9.
 pub fn answer_counts(answers: &[u64; 10]) -> String {
-    [0, 1, 2, 3, 4, 5, 9]
+    [0, 1, 2, 3, 4, 5, 7, 9]
         .map(|number| format!("{number}: {}", answers[number]))
         .join(", ")
 }

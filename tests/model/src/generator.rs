@@ -12,6 +12,8 @@ use crate::random::Random;
 use crate::spoil::Kind;
 
 mod fire_button;
+mod looks;
+mod queued_reports;
 mod saved_states;
 mod stuck_keys;
 
@@ -37,6 +39,7 @@ pub fn session_and_kinds(
         match format {
             Format::Text => generator.scene(),
             Format::Vectors if generator.random.one_in(4) => generator.saving_session(),
+            Format::Vectors if generator.random.one_in(5) => generator.looking_session(),
             Format::Vectors => generator.short_session(),
         }
     }
@@ -356,13 +359,13 @@ impl Generator {
         if lent + 1 >= BUFFER {
             match self.random.below(40) {
                 0 => self.longest_resume(),
-                1 | 2 => self.fire_at_a_full_queue(),
+                1..=4 => self.fire_at_a_full_queue(),
                 _ => {}
             }
         }
         if keys {
             self.keys_for(lent);
-        } else if lent < 3 && self.random.one_in(3) {
+        } else if lent < 3 && self.random.one_in(2) {
             // Room for nothing, for a key, or for a packet of the fire button.
             self.fire_button();
         }
@@ -383,7 +386,7 @@ impl Generator {
     // Single lines.
 
     /// Asks once in `count` times: mostly what waits in the queue, now and then
-    /// how many keys are held, or badly.
+    /// how many keys are held, or badly. The panel looks more rarely.
     fn ask(&mut self, count: u64) {
         let question = match self.random.below(12) {
             0 => self.random.pick(BAD_QUESTIONS),
@@ -391,6 +394,7 @@ impl Generator {
             _ => QUEUE,
         };
         self.question(question, count);
+        self.glance(4 * count);
     }
 
     /// A question, once in `count` times. The text program has none.

@@ -6,6 +6,9 @@ use crate::state::{acting, arrow, MouseMode, X, Y};
 /// The button action that makes keys of the buttons.
 pub const KEYS: u8 = 4;
 
+/// How many bytes a report of the absolute mode has.
+pub const REPORT: usize = 6;
+
 #[derive(Clone, Copy, Debug, PartialEq, Eq)]
 pub enum Button {
     Left,
@@ -158,7 +161,7 @@ impl Mouse {
 
     /// What a live button whose level has just changed sends.
     pub fn button(&mut self, button: Button, down: bool, rules: &Rules, out: &mut Vec<u8>) {
-        let absolute = matches!(self.mode, MouseMode::Absolute { .. });
+        let absolute = self.mode.is_absolute();
         let keycode = matches!(self.mode, MouseMode::Keycode { .. });
         if absolute {
             // "a live button, with any action, sets its latch"
@@ -174,15 +177,16 @@ impl Mouse {
             self.send_held(Occasion::Button, rules, out);
         } else if self.action & if down { 1 } else { 2 } != 0 {
             // "then with action bit 0 a press, with bit 1 a release, sends the
-            // same report without clearing"
-            self.push_report(out);
+            // same report without clearing": by request A7 "the look's bytes
+            // alone".
+            out.extend_from_slice(&self.report());
         }
     }
 
     /// "0xF7, latches, X, Y high byte first"
-    pub fn push_report(&self, out: &mut Vec<u8>) {
+    pub fn report(&self) -> [u8; REPORT] {
         let [x, y] = self.coordinates.map(u16::to_be_bytes);
-        out.extend_from_slice(&[0xF7, self.latches, x[0], x[1], y[0], y[1]]);
+        [0xF7, self.latches, x[0], x[1], y[0], y[1]]
     }
 }
 

@@ -1,7 +1,7 @@
 //! The sessions that the papers state, with the outputs that they state; and
 //! sessions for sentences of document 01, for questions, for the map of keys, for
-//! saved lines, for the months, for the right button with the mouse off and for
-//! long moves, with outputs worked out by hand.
+//! saved lines, for the months, for the right button with the mouse off, for long
+//! moves and for looks, with outputs worked out by hand.
 //!
 //! Sessions are written on one line: `;` parts lines, a space stands for a tab,
 //! bare hex bytes are B lines, `*n` repeats what stands before it. Nothing
@@ -27,6 +27,7 @@ const SAVED: &str = include_str!("saved.txt");
 const MONTHS: &str = include_str!("months.txt");
 const FIRE: &str = include_str!("fire.txt");
 const MOVES: &str = include_str!("moves.txt");
+const LOOKS: &str = include_str!("looks.txt");
 
 /// A session and what each of its lines gives.
 #[derive(Clone, Debug, PartialEq, Eq)]
@@ -110,6 +111,11 @@ pub fn fire() -> Vec<Paper> {
 /// Every session for request A6: first the reading's.
 pub fn moves() -> Vec<Paper> {
     table(MOVES)
+}
+
+/// Every session for request A7: first those of the readings.
+pub fn looks() -> Vec<Paper> {
+    table(LOOKS)
 }
 
 fn table(text: &str) -> Vec<Paper> {

@@ -1,8 +1,8 @@
 //! Questions, which the text program's lines cannot spell: a line `?`, a tab
-//! and a word. None is an input. `load` alone changes something, and `save`
-//! alone minds the lent buffer.
+//! and a word. None is an input. `load` and `clear` alone change something, and
+//! `save` and `look` alone mind the lent buffer.
 
-use crate::controller::{answer_number, Refusal};
+use crate::controller::{answer_number, Answer, Refusal};
 use crate::limits::LONGEST_QUESTION;
 use crate::rules::SavedFault;
 use crate::saved::{read, write};
@@ -22,6 +22,8 @@ pub fn answer(line: &[u8], state: &mut State, lent: usize, out: &mut Vec<u8>) ->
         // How many keys are held.
         b"lamp" => out.push(state.rules.lamp(&state.keys)),
         b"save" => return Some(save(state, lent, out)),
+        b"look" => return Some(answer_number(look(state, lent, out))),
+        b"clear" => return Some(answer_number(clear(state, lent))),
         _ => return load(line, state),
     }
     Some(0)
@@ -37,6 +39,18 @@ fn save(state: &State, lent: usize, out: &mut Vec<u8>) -> u8 {
     }
     out.clear();
     answer_number(Err(Refusal::NoRoom))
+}
+
+/// The report that the panel shows.
+fn look(state: &mut State, lent: usize, out: &mut Vec<u8>) -> Answer {
+    let rules = state.rules;
+    out.extend(rules.look(state, lent)?);
+    Ok(())
+}
+
+fn clear(state: &mut State, lent: usize) -> Answer {
+    let rules = state.rules;
+    rules.clear(state, lent)
 }
 
 /// Goes on from the state of a line, whose bytes are given in hex, or as `-`

@@ -1,19 +1,23 @@
 //! What a deliberately wrong variant changes: numbers of document 01, what
 //! becomes of held motion that is sent, the map of keys, saved lines, a month's
 //! length, the right button with the mouse off, the packets that the host reads,
-//! and how a long move is split. A comparison that finds no difference, and a
-//! ledger that adds up, are worth something only if they find these.
+//! how a long move is split, and what the panel sees and clears. A comparison that
+//! finds no difference, and a ledger that adds up, are worth something only if they
+//! find these.
 
 use crate::controller::{Answer, Refusal};
 use crate::keys::{Keys, LAST};
 use crate::limits::{HELD_LIMIT, QUEUE_ROOM};
 
 mod fire;
+mod interrogation;
+mod look;
 mod receiver;
 mod saved;
 mod splitting;
 
 pub use fire::FireFault;
+pub use look::LookFault;
 pub use receiver::ReceiverFault;
 pub use saved::SavedFault;
 pub use splitting::SplitFault;
@@ -98,6 +102,9 @@ pub struct Rules {
     pub receiver_fault: Option<ReceiverFault>,
     /// What is wrong with how a long move is split, if anything is.
     pub split_fault: Option<SplitFault>,
+    /// What is wrong with the look, the clearing or the interrogation, if anything
+    /// is.
+    pub look_fault: Option<LookFault>,
 }
 
 impl Rules {
@@ -117,6 +124,7 @@ impl Rules {
         fire_fault: None,
         receiver_fault: None,
         split_fault: None,
+        look_fault: None,
     };
 
     /// Variant `number`, wrong in one place; any other number is the documents.
@@ -137,7 +145,8 @@ impl Rules {
             37 => rules.may_end = 32,
             38..=49 => rules.fire_fault = fire::wrong_with_the_fire_button(number),
             50..=60 => rules.receiver_fault = receiver::wrong_with_the_receiver(number),
-            61.. => rules.split_fault = splitting::wrong_with_splitting(number),
+            61..=70 => rules.split_fault = splitting::wrong_with_splitting(number),
+            71.. => rules.look_fault = look::wrong_with_the_look(number),
             _ => rules.saved_fault = saved::wrong_with_saved_lines(number),
         }
         rules

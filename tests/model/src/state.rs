@@ -34,6 +34,12 @@ pub enum MouseMode {
     Keycode { delta: [u8; 2] },
 }
 
+impl MouseMode {
+    pub fn is_absolute(self) -> bool {
+        matches!(self, MouseMode::Absolute { .. })
+    }
+}
+
 #[derive(Clone, Copy, Debug, PartialEq, Eq)]
 pub enum JoystickMode {
     Event,

@@ -1,11 +1,13 @@
 //! Sessions with the length of their buffer, and their expected outputs: those
 //! of the papers, resumes with every length of buffer, bad input in every mode,
 //! sentences of document 01, questions, the map of keys, saved lines, the months,
-//! the right button with the mouse off, and long moves.
+//! the right button with the mouse off, long moves, and looks.
 
 use crate::keys::{CODES, COUNT};
 use crate::limits::{BUFFER, HELD_LIMIT, QUEUE_ROOM};
-use crate::papers::{fire, keys, lines, months, moves, papers, questions, saved, sentences, Paper};
+use crate::papers::{
+    fire, keys, lines, looks, months, moves, papers, questions, saved, sentences, Paper,
+};
 use crate::program::{Format, Player};
 use crate::rules::Rules;
 
@@ -97,6 +99,14 @@ output; then its sentences, document 01's refusals of a long move, and last leve
 and actions of the buttons. Sessions 3 and 4 above are its own too. Every other \
 output line is worked out by hand.";
 
+const LOOKS: &str = "\
+Request A7, look without clearing: first the readings, of which the papers state the \
+output of the first; then the look, its refusals, the clearing, 0x0D and the buttons; \
+then more of each: what a refused look leaves, a full queue, what empties the latches, \
+and the ends of numbers and buffers; and last the session of docs/ANSWERS.md. \
+The questions `look` and `clear` are the two that it splits the interrogation into. \
+Every other output line is worked out by hand.";
+
 /// All sessions.
 pub fn groups() -> Vec<Group> {
     vec![
@@ -121,6 +131,7 @@ pub fn groups() -> Vec<Group> {
         group(MONTHS, months()),
         group(FIRE, fire()),
         group(MOVES, moves()),
+        group(LOOKS, looks()),
     ]
 }
 

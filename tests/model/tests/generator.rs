@@ -1,12 +1,11 @@
 //! The sessions made at random are good for a comparison: they are the same for
 //! the same seed, visit everything, and show that the wrong variants are wrong.
 
-use std::sync::OnceLock;
-
 use model::coverage::Coverage;
 use model::generator::{session, session_and_kinds};
 use model::keys::COUNT;
 use model::limits::{BUFFER, QUEUE_ROOM};
+use model::mouse::REPORT;
 use model::program::{printed, session_head, Format, Player};
 use model::rules::Rules;
 use model::saved::{LONGEST, SHORTEST};
@@ -62,68 +61,15 @@ fn every_answer_and_every_pair_of_modes_is_met() {
         for answer in [0, 1, 2, 3, 9] {
             assert!(coverage.answers[answer] > 100);
         }
-        // The text program's buffer is never too short.
-        assert_eq!(coverage.answers[4] > 100, format == Format::Vectors);
+        // The text program's buffer is never too short, and it has no panel.
+        for answer in [4, 7] {
+            assert_eq!(coverage.answers[answer] > 100, format == Format::Vectors);
+        }
         assert_eq!(coverage.longest, BUFFER);
         let pairs = coverage.pairs.as_flattened().as_flattened();
         assert!(pairs.iter().all(|&lines| lines > 100));
         let roles = coverage.roles.as_flattened().as_flattened();
         assert!(roles.iter().all(|&lines| lines > 100));
-    }
-}
-
-/// What a long session visits, worked out once.
-fn long_coverage(format: Format) -> &'static Coverage {
-    static COVERAGES: [OnceLock<Coverage>; 2] = [OnceLock::new(), OnceLock::new()];
-    let coverage = &COVERAGES[usize::from(format == Format::Vectors)];
-    coverage.get_or_init(|| Coverage::of(&session(1, 800_000, format), format))
-}
-
-/// Every buffer that a reset may need is lent with one while keys are down: up
-/// to 0xF0 and 114 breaks, and a byte more.
-#[test]
-fn keys_and_resets_meet_in_every_way() {
-    for format in [Format::Text, Format::Vectors] {
-        let keys = &long_coverage(format).keys;
-        assert_eq!((keys.met.len(), keys.met_with_vectors.len()), (18, 11));
-        assert!(keys.met.values().all(|&count| count > 40));
-        match format {
-            Format::Text => assert!(keys.met_with_vectors.values().all(|&count| count == 0)),
-            Format::Vectors => {
-                assert!(keys.met_with_vectors.values().all(|&count| count > 10));
-                assert!((0..=COUNT + 2).all(|lent| keys.lent.contains(&lent)));
-            }
-        }
-    }
-}
-
-/// With the mouse off the buttons come in every mode, with every action, paused
-/// and where there is no room; both joystick modes that monitor have joysticks on
-/// unless they are loaded.
-#[test]
-fn buttons_with_the_mouse_off_meet_in_every_way() {
-    for (format, least) in [(Format::Text, 15), (Format::Vectors, 10)] {
-        let fire = &long_coverage(format).fire;
-        assert_eq!((fire.met.len(), fire.met_with_vectors.len()), (34, 10));
-        for (what, &count) in &fire.met {
-            assert!(count > least, "{what}: {count}");
-        }
-        for (what, &count) in &fire.met_with_vectors {
-            match format {
-                Format::Text => assert_eq!(count, 0, "{what}"),
-                Format::Vectors => assert!(count > 10, "{what}: {count}"),
-            }
-        }
-        for by_sticks in fire.modes.as_flattened() {
-            let [event, interrogation, _, _, keycode] = by_sticks;
-            let off = [event, interrogation, keycode].map(|[off, _]| *off);
-            let on = by_sticks.map(|[_, on]| on);
-            assert!(off.iter().all(|&count| count > 5), "{off:?}");
-            assert!(on.iter().all(|&count| count > 10), "{on:?}");
-        }
-        for left in fire.left_modes {
-            assert!(left.iter().all(|&count| count > 10), "{left:?}");
-        }
     }
 }
 
@@ -183,6 +129,10 @@ fn questions_are_asked_where_they_show_something() {
         } else if line == b"?\tsave" {
             assert!(answer == 0 || (answer == 4 && player.written() == 0));
             assert_eq!(player.state, before);
+        } else if line == b"?\tlook" {
+            let bytes = if answer == 0 { REPORT } else { 0 };
+            assert!(matches!(answer, 0 | 4 | 7) && player.written() == bytes);
+            assert_eq!(player.state, before);
         } else if line.starts_with(b"?") && !matches!(answer, 0 | 5) {
             assert_eq!(answer, BAD_LINE);
             assert_eq!(player.state, before);
@@ -195,34 +145,39 @@ fn questions_are_asked_where_they_show_something() {
     assert!(good.iter().all(|&count| count > 50) && bad > 50);
 }
 
-/// Three are rare here, and are for the stored sessions: a day too many in May (37),
-/// a packet too many (65) and full packets at motion (69).
+/// Four are rare here, and are for the stored sessions: a day too many in May (37), a
+/// packet too many (65), full packets at motion (69) and latches cleared by a report
+/// that fills the queue (110).
 #[test]
 fn the_wrong_variants_are_seen() {
     let text = session(1, 100_000, Format::Text);
     let right = printed(&text, Format::Text, Rules::DOCUMENT);
     let shows = |number| printed(&text, Format::Text, Rules::wrong(number)) != right;
     let long_moves = [61, 62, 63, 64, 66, 67, 68, 70];
-    for number in (1..=15).chain([36]).chain(38..=48).chain(long_moves) {
+    let shown = (1..=15).chain([36]).chain(38..=48).chain(long_moves);
+    for number in shown.chain(98..=104).chain([109]) {
         assert!(shows(number), "{number}");
     }
-    // No line of the text program tells the lamp, a saved line or a short buffer (16
-    // to 35, and 49); the next are wrong on the host's side; 0 and 71 are not wrong.
-    for number in (16..=35).chain(49..=60).chain([0, 71]) {
+    // No line of the text program tells the lamp, a saved line, a short buffer or the
+    // panel (16 to 35, 49, 71 to 97, and 105 to 108); 50 to 60 are wrong on the host's
+    // side; 0 and 111 are not wrong.
+    let not_shown = (16..=35).chain(49..=60).chain(71..=97).chain(105..=108);
+    for number in not_shown.chain([0, 111]) {
         assert!(!shows(number), "{number}");
     }
 }
 
-/// Those that only short buffers, the lamp and saved lines show. A 31st day in
-/// every month and a memory load without data are for `saved_lines`.
+/// Those that only short buffers, the lamp, saved lines and the panel show, and
+/// others. A 31st day in every month and a memory load without data are for
+/// `saved_lines`.
 #[test]
 fn the_wrong_variants_of_the_vectors_are_seen() {
     let text = session(1, 400_000, Format::Vectors);
     let right = printed(&text, Format::Vectors, Rules::DOCUMENT);
     let shows = |number| printed(&text, Format::Vectors, Rules::wrong(number)) != right;
     let shown = (10..=35).filter(|number| ![27, 31].contains(number));
-    for number in shown.chain(38..=49).chain(61..=70) {
+    for number in shown.chain(38..=49).chain(61..=110) {
         assert!(shows(number), "{number}");
     }
-    assert!(!shows(71));
+    assert!(!shows(111));
 }

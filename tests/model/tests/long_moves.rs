@@ -95,7 +95,7 @@ fn the_laws_find_the_wrong_variants() {
         assert_eq!(broken(&sessions, Rules::wrong(number)), wrong, "{number}");
     }
     assert_eq!(broken(&sessions, Rules::DOCUMENT), []);
-    assert_eq!(Rules::wrong(71), Rules::DOCUMENT);
+    assert_eq!(Rules::wrong(71).split_fault, None);
 }
 
 /// What a report shows as wanted keeps the laws.

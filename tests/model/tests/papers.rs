@@ -4,7 +4,9 @@ use model::clock::Clock;
 use model::controller::{answer_number, step, Input};
 use model::joysticks::Joysticks;
 use model::limits::BUFFER;
-use model::papers::{fire, keys, lines, months, moves, papers, questions, saved, sentences, Paper};
+use model::papers::{
+    fire, keys, lines, looks, months, moves, papers, questions, saved, sentences, Paper,
+};
 use model::program::{run, Format, Player};
 use model::rules::Rules;
 use model::state::{JoystickMode, Role, State, Velocity};
@@ -22,7 +24,7 @@ fn text_program(input: &str, format: Format) -> String {
 fn every_session_gives_its_stated_output() {
     let (papers, sentences, questions) = (papers(), sentences(), questions());
     let (keys, saved, months) = (keys(), saved(), months());
-    let (fire, moves) = (fire(), moves());
+    let (fire, moves, looks) = (fire(), moves(), looks());
     assert_eq!(papers.len(), 17 + 78 + 7);
     assert_eq!(sentences.len(), 20);
     assert_eq!(questions.len(), 12);
@@ -31,7 +33,8 @@ fn every_session_gives_its_stated_output() {
     assert_eq!(months.len(), 2);
     assert_eq!(fire.len(), 4 + 29);
     assert_eq!(moves.len(), 1 + 28);
-    let requests = [keys, saved, months, fire, moves].concat();
+    assert_eq!(looks.len(), 5 + 60);
+    let requests = [keys, saved, months, fire, moves, looks].concat();
     let stated = [papers, sentences, questions, requests].concat();
     for Paper { title, .. } in stated.iter().filter(|paper| !holds(paper)) {
         eprintln!("not as stated: {title}");
@@ -94,31 +97,31 @@ fn a_head_starts_a_session_with_its_buffer() {
 /// The text program has no questions, and bad lines are no questions.
 #[test]
 fn questions_are_for_vectors_alone() {
-    let input = "B\t13\nK\t1E\t1\n?\tqueue\n?\tlamp\n?\tqueues\n?\tqueue";
-    let told = "1\t0\t-\n2\t0\t-\n3\t0\t1E\n4\t0\t01\n5\t9\t-\n6\t0\t1E\n";
+    let input = "B\t13\nK\t1E\t1\n?\tqueue\n?\tlamp\n?\tqueues\n?\tlook\n?\tclear\n?\tqueue";
+    let told = "1\t0\t-\n2\t0\t-\n3\t0\t1E\n4\t0\t01\n5\t9\t-\n6\t7\t-\n7\t0\t-\n8\t0\t1E\n";
     assert_eq!(text_program(input, Format::Vectors), told);
     let header = std::str::from_utf8(HEADER).unwrap();
-    let bad = "1\t0\t-\n2\t0\t-\n3\t9\t-\n4\t9\t-\n5\t9\t-\n6\t9\t-\n";
+    let bad = "1\t0\t-\n2\t0\t-\n3\t9\t-\n4\t9\t-\n5\t9\t-\n6\t9\t-\n7\t9\t-\n8\t9\t-\n";
     assert_eq!(text_program(input, Format::Text), format!("{header}{bad}"));
 }
 
 /// A refusal changes nothing: shown for every refused line of the vectors.
 #[test]
 fn refusals_leave_the_state() {
-    let mut refused = [0; 5];
+    let mut refused = [0; 10];
     for session in groups().iter().flat_map(|group| &group.sessions) {
         let mut player = Player::new(Format::Vectors, Rules::DOCUMENT, session.lent);
         for line in &session.lines {
             let before = player.state;
             let answer = player.play(line.as_bytes(), &mut Vec::new());
-            if (1..=4).contains(&answer) {
+            if matches!(answer, 1..=4 | 7) {
                 assert_eq!(player.state, before);
                 assert_eq!(player.written(), 0);
                 refused[usize::from(answer)] += 1;
             }
         }
     }
-    assert!(refused[1..].iter().all(|&count| count > 0));
+    assert!([1, 2, 3, 4, 7].iter().all(|&answer| refused[answer] > 0));
 }
 
 /// The other lines of a session give the same without its bad events.

@@ -34,8 +34,8 @@ write-line-requires c κs =
     let small : start .args .session .number < 2 ^ 64 = omega (arith, start .pre .0) in
     (omega (arith, c .before .before .number .ensures, load-small (read .read .result .answer)), omega arith, line-fits _ _ 0 [] small (omega arith) (omega (arith, start .pre .1)))
 
-add-t19 : tie.Need-add-t19
-add-t19 c = omega (arith, c .before .before .before .before .before .before .before .before .before .before .before .before .before .before .before .before .before .pre .0)
+go-on-requires : tie.Need-go-on-requires
+go-on-requires c κs = search needs
 
 same-length : tie.Need-same-length
 same-length c = search needs
@@ -45,8 +45,8 @@ same-length-2 c = search needs
 
 returns : tie.Need-returns
 returns c =
-    let read = c .before .before .before .before .before .before .before .before in
-    (read .read .ensures .1, (omega arith, omega (arith, wrote-within (c .before .before .before .write-line .ensures), c .before .before .out .given)))
+    let told = c .go-on .ensures in
+    (told .0, (told .1 .0, omega (arith, told .1 .1, wrote-within (c .before .before .before .write-line .ensures), c .before .before .out .given)))
 
 pub load-spec : {M : Type 1} → statement M
 load-spec =
@@ -58,7 +58,7 @@ load-spec =
     read-requires
     number-requires
     write-line-requires
-    add-t19
+    go-on-requires
     same-length
     same-length-2
     returns)

@@ -25,11 +25,13 @@ anew and looks that they are the same.
 A question is a line `?`, a tab and a word. It is no input: nothing changes, the
 lent buffer does not matter, and its answer is 0. `queue` asks for the bytes that
 wait in the queue, oldest first; `lamp` asks how many keys are held, one byte.
-Two questions are answered otherwise. `save` asks for the state's saved line, its
+Four questions are answered otherwise. `save` asks for the state's saved line, its
 line feed too, and gives 4 where the lent buffer is too short for it. `load`, a
 tab and the bytes of a saved line, in hex as above, goes on from the state of that
-line, and gives 5 where it is the line of none; power-up is handed back then. Any
-other line that begins with `?` is a bad line.
+line, and gives 5 where it is the line of none; power-up is handed back then. `look`
+asks for the report that 0x0D would send, and gives 7 outside absolute mode and else
+4 where fewer than six bytes are lent. `clear` empties the latches, and gives 0 and
+no bytes. Any other line that begins with `?` is a bad line.
 
 The sessions, in order:
 ";

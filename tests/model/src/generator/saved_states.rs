@@ -89,7 +89,7 @@ impl Generator {
         }
     }
 
-    fn load(&mut self, saved: &[u8]) {
+    pub(super) fn load(&mut self, saved: &[u8]) {
         let mut line = b"?\tload\t".to_vec();
         match saved {
             [] => line.push(b'-'),
@@ -111,7 +111,7 @@ impl Generator {
 
     /// Lines that show what a state holds.
     fn played_on(&mut self) {
-        match self.random.below(16) {
+        match self.random.below(20) {
             0 | 1 => self.event(),
             2..=4 => self.tick_run(4),
             5 => {
@@ -132,7 +132,8 @@ impl Generator {
             11 => self.queued_event(),
             12 => self.resume(),
             13 => self.observe(),
-            _ => self.right_button(),
+            14 | 15 => self.right_button(),
+            _ => self.glance(1),
         }
     }
 

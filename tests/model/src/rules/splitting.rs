@@ -26,7 +26,7 @@ pub enum SplitFault {
     EachAxisAlone,
 }
 
-/// The variants from 61 on.
+/// The variants 61 to 70.
 pub(super) fn wrong_with_splitting(number: u32) -> Option<SplitFault> {
     Some(match number {
         61 => SplitFault::TowardZero,

@@ -122,7 +122,7 @@ impl Reader<'_> {
     /// "beyond that, to 2,032 either way, only while paused with the mouse live
     /// in relative or keycode mode"
     fn held_limit(&self, state: &State) -> i32 {
-        let absolute = matches!(state.mouse.mode, MouseMode::Absolute { .. });
+        let absolute = state.mouse.mode.is_absolute();
         let held_back = state.paused && state.mouse_is_live() && !absolute;
         if held_back || self.rules.has_fault(SavedFault::HeldBeyond) {
             self.rules.held_limit

@@ -96,7 +96,7 @@ fn coordinates(state: &State) -> [(i32, i32); 2] {
 }
 
 fn held(state: &State) -> (i32, i32) {
-    let absolute = matches!(state.mouse.mode, MouseMode::Absolute { .. });
+    let absolute = state.mouse.mode.is_absolute();
     match state.paused && state.mouse_is_live() && !absolute {
         true => (-HELD_LIMIT, HELD_LIMIT),
         false => (-254, 254),

@@ -57,8 +57,8 @@ enum-told-7 c = search needs
 report-requires : tie.Need-report-requires
 report-requires c κs = search needs
 
-without-latches-requires : tie.Need-without-latches-requires
-without-latches-requires c κs = search needs
+cleared-requires : tie.Need-cleared-requires
+cleared-requires c κs = search needs
 
 enum-told-8 : tie.Need-enum-told-8
 enum-told-8 c = search needs
@@ -110,7 +110,7 @@ returns-6 c = rw (c .before .enum-told6 .given .1) (c .silent6 .ensures)
 
 returns-7 : tie.Need-returns-7
 unfolding commanded report
-returns-7 c = rw (c .before .before .enum-told7 .given .1, c .before .report .ensures, c .without-latches .ensures)
+returns-7 c = rw (c .before .before .enum-told7 .given .1, c .before .report .ensures, c .cleared .ensures)
 
 returns-8 : tie.Need-returns-8
 unfolding commanded
@@ -145,7 +145,7 @@ commanded-spec =
     silent-requires-6
     enum-told-7
     report-requires
-    without-latches-requires
+    cleared-requires
     enum-told-8
     maximum-of-requires
     loaded-requires

@@ -1,10 +1,10 @@
--- `mouse::command::latch_byte` meets its contract.
+-- `mouse::report::latch_byte` meets its contract.
 -- Assumes nothing.
 use native.Mathlib.Omega.{arith}
 use Rattle.mouse.proofs.Bits.{same-bit, four-small}
 use borrow.Author.Needs.{needs}
-use Rattle.mouse.proofs.command.latch_byte.Statement.{statement}
-use Rattle.mouse.proofs.command.latch_byte.Tie as tie
+use Rattle.mouse.proofs.report.latch_byte.Statement.{statement}
+use Rattle.mouse.proofs.report.latch_byte.Tie as tie
 
 cast-result : tie.Need-cast-result
 cast-result c = search needs
