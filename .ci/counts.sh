@@ -9,8 +9,8 @@ give_up() {
 }
 
 # Every tool that the gate uses is looked for before the proofs, which take minutes.
-for tool in rt cargo rustc awk bash cat chmod cmp cp diff env flock grep head mkdir mktemp rm rmdir sleep tail tee timeout \
-    tr wc yes; do
+for tool in rt cargo rustc awk basename bash cat chmod cmp cp cut diff env find flock grep head mkdir mktemp mv rm rmdir \
+    sha256sum sleep sort tail tee timeout touch tr wc xargs yes; do
     command -v "$tool" >/dev/null || give_up "$tool is needed and not installed"
 done
 
@@ -37,7 +37,9 @@ add_counts_of() {
         [ "$status" -eq 0 ] || [ "${BASH_REMATCH[2]}" -gt 0 ] || count "$* ended with status $status" 1
     else
         count "$* ends in a count" 1
+        status=1
     fi
+    return "$status"
 }
 
 finish() {

@@ -11,7 +11,7 @@ count "./ikbd from another folder" $?
 { printf -- '-\n' && cat examples/document.txt; } | "$models/model_resume" | tail -n 1 >"$room/line"
 ./ikbd save examples/document.txt 2>"$room/said" | cmp - "$room/line" && [ ! -s "$room/said" ]
 count "./ikbd save FILE prints the model's saved line, and says nothing else" $?
-{ printf -- '-\n' && cat examples/document.txt; } | target/bin/resume | tail -n 1 | cmp - "$room/line"
+{ printf -- '-\n' && cat examples/document.txt; } | crates/resume/out/resume | tail -n 1 | cmp - "$room/line"
 count "./ikbd save prints the last line of resume" $?
 ./ikbd save <examples/document.txt | cmp - "$room/line"
 count "./ikbd save plays what comes on standard input" $?
@@ -128,35 +128,60 @@ timeout 60 ./ikbd resume "$room/minus" examples/key.txt >"$room/output" &&
     cmp <(head -n 2 "$room/output") <(printf "${header}0\t0\t-\n")
 count "./ikbd resume takes a file with only a - as power-up" $?
 
-# With a stand-in for rt: a proof that fails, and the first time, in an empty folder.
+# With a stand-in for rt, in a folder where nothing is proved yet. It is called as `rt run` in the program's folder.
 stand_in() { # what it does
     mkdir -p "$room/stand-in"
     printf '#!/bin/sh\n%s\n' "$1" >"$room/stand-in/rt"
     chmod +x "$room/stand-in/rt"
 }
-stand_in 'echo "rt: output proved (1 s)"; echo "rt: clock NOT PROVED (exit 1, 2 s)"; exit 1'
-refuses "./ikbd plays nothing where a proof fails" "clock NOT PROVED" env "PATH=$room/stand-in:$PATH" ./ikbd
-refuses "./ikbd save plays nothing where a proof fails" "clock NOT PROVED" env "PATH=$room/stand-in:$PATH" ./ikbd save
-stand_in "echo 'rt: output proved (1 s)'; mkdir -p target/bin && cp '$PWD/target/bin/ikbd' target/bin"
-cp ikbd "$room/ikbd"
-PATH=$room/stand-in:$PATH "$room/ikbd" examples/document.txt 2>"$room/said" | cmp - examples/document.out &&
-    [[ $(head -n 1 "$room/said") == *"4 minutes"* ]] && grep -q "output proved (1 s)" "$room/said"
+nothing_proved() { # folder
+    mkdir -p "$1/.ci" "$1/crates/ikbd" "$1/crates/resume" "$1/crates/packets"
+    cp ikbd crates.txt "$1"
+    cp .ci/sum "$1/.ci"
+}
+proves() { printf 'echo "crate %s: modules loaded=0 checked=9" >&2; echo "logic=%s functions=3" >&2\n' "$1" "$2"; }
+builds() { printf 'mkdir -p out && cp "%s/crates/%s/out/%s" out\n' "$PWD" "$1" "$1"; } # program
+nothing_proved "$room/fails"
+stand_in "$(proves output proved; proves clock not-proved); exit 1"
+refuses "./ikbd plays nothing where a proof fails" "clock is NOT PROVED" env "PATH=$room/stand-in:$PATH" "$room/fails/ikbd"
+refuses "./ikbd save plays nothing where a proof fails" "clock is NOT PROVED" \
+    env "PATH=$room/stand-in:$PATH" "$room/fails/ikbd" save
+grep -q '^crate clock: ' "$room/fails/target/proved/resume.log"
+count "./ikbd save keeps what rt says where a proof fails" $?
+nothing_proved "$room/anew"
+stand_in "$(proves output proved; builds ikbd)"
+PATH=$room/stand-in:$PATH "$room/anew/ikbd" examples/document.txt 2>"$room/said" | cmp - examples/document.out &&
+    [[ $(head -n 1 "$room/said") == *"4 minutes"* ]] && grep -q "output is proved" "$room/said"
 count "./ikbd says at first how long it takes, and names each crate when it is proved" $?
-stand_in "echo 'rt: saved proved (1 s)'; mkdir -p target/bin && cp '$PWD/target/bin/resume' target/bin"
-PATH=$room/stand-in:$PATH "$room/ikbd" save examples/saved-first.txt 2>"$room/said" | cmp - examples/saved.line &&
-    [[ $(head -n 1 "$room/said") == *"5 minutes"* ]] && grep -q "saved proved (1 s)" "$room/said"
+stand_in "$(proves saved proved; builds resume)"
+PATH=$room/stand-in:$PATH "$room/anew/ikbd" save examples/saved-first.txt 2>"$room/said" | cmp - examples/saved.line &&
+    [[ $(head -n 1 "$room/said") == *"5 minutes"* ]] && grep -q "saved is proved" "$room/said"
 count "./ikbd save says at first how long it takes, and names each crate when it is proved" $?
-stand_in "echo 'rt: listing proved (1 s)'; mkdir -p target/bin && cp '$PWD/target/bin/packets' target/bin"
-PATH=$room/stand-in:$PATH "$room/ikbd" packets examples/packets.out 2>"$room/said" | cmp - examples/packets.list &&
-    [[ $(head -n 1 "$room/said") == *"4 minutes"* ]] && grep -q "listing proved (1 s)" "$room/said"
+stand_in "$(proves listing proved; builds packets)"
+PATH=$room/stand-in:$PATH "$room/anew/ikbd" packets examples/packets.out 2>"$room/said" | cmp - examples/packets.list &&
+    [[ $(head -n 1 "$room/said") == *"4 minutes"* ]] && grep -q "listing is proved" "$room/said"
 count "./ikbd packets says at first how long it takes, and names each crate when it is proved" $?
+# A program is proved again where a file that it is made of has changed, or the program itself, and else it is not.
+stand_in 'exit 1'
+PATH=$room/stand-in:$PATH "$room/anew/ikbd" examples/document.txt 2>"$room/said" | cmp - examples/document.out &&
+    [ ! -s "$room/said" ]
+count "./ikbd proves nothing where nothing has changed" $?
+mkdir -p "$room/anew/crates/output/src"
+: >"$room/anew/crates/output/src/lib.rt"
+refuses "./ikbd proves again where a crate below has changed" "not proved" env "PATH=$room/stand-in:$PATH" "$room/anew/ikbd"
+stand_in "$(builds resume)"
+PATH=$room/stand-in:$PATH "$room/anew/ikbd" save examples/saved-first.txt 2>/dev/null | cmp - examples/saved.line &&
+    echo >>"$room/anew/crates/resume/out/resume"
+stand_in 'exit 1'
+refuses "./ikbd save proves again where the program is another" "not proved" \
+    env "PATH=$room/stand-in:$PATH" "$room/anew/ikbd" save
 # Two calls at once, where both programs have to be proved: a second proof that begins before the first has ended is
 # written down.
-mkdir -p "$room/two"
-cp ikbd "$room/two/ikbd"
-stand_in "mkdir target/busy 2>/dev/null || : >target/both
-[ -e target/bin ] || sleep 6
-mkdir -p target/bin && cp '$PWD/target/bin/'\"\$2\" target/bin; rmdir target/busy"
+nothing_proved "$room/two"
+stand_in "mkdir ../../target/busy 2>/dev/null || : >../../target/both
+[ -e ../../target/slow ] || { : >../../target/slow; sleep 6; }
+program=\$(basename \"\$PWD\")
+mkdir -p out && cp \"$PWD/crates/\$program/out/\$program\" out; rmdir ../../target/busy"
 # The first proof takes longer than a call waits in silence; and more is sent than a pipe holds, so that the first program
 # cannot end before the second reads.
 for ((turn = 0; turn < 20000; turn++)); do printf 'K\t1E\t1\n'; done >"$room/keys"
@@ -170,12 +195,14 @@ two_at_once && [ ! -e "$room/two/target/both" ] && [ ! -e "$room/two/target/busy
     grep -q "another call is proving" "$room/said"
 count "./ikbd FILE | ./ikbd packets where both have to be proved: one after the other" $?
 # A program that does not come to its end: an answer is no saved line.
-stand_in ':'
 saves_nothing() { # NAME, what the program does
-    printf '#!/bin/sh\n%s\n' "$2" >"$room/target/bin/resume"
+    rm -rf "$room/ends" && nothing_proved "$room/ends" && mkdir -p "$room/ends/crates/resume/out"
+    printf '#!/bin/sh\n%s\n' "$2" >"$room/ends/crates/resume/out/resume"
+    chmod +x "$room/ends/crates/resume/out/resume"
+    stand_in ':'
     refuses "./ikbd save prints no line where the program $1" "no line to save" \
-        env "PATH=$room/stand-in:$PATH" "$room/ikbd" save
+        env "PATH=$room/stand-in:$PATH" "$room/ends/ikbd" save
 }
 saves_nothing "ends after an answer" 'printf "line\tanswer\tbytes\n0\t0\t-\n1\t0\t1E\n"'
 saves_nothing "prints nothing" ':'
-saves_nothing "fails" "'$PWD/target/bin/resume'; exit 1"
+saves_nothing "fails" "'$PWD/crates/resume/out/resume'; exit 1"

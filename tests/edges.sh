@@ -2,7 +2,7 @@
 header='line\tanswer\tbytes\n'
 
 gives() { # NAME, input, output after the header
-    printf "$2" | timeout 60 target/bin/ikbd | cmp - <(printf "$header$3")
+    printf "$2" | timeout 60 crates/ikbd/out/ikbd | cmp - <(printf "$header$3")
     count "$1" $?
 }
 gives "empty input gives the header alone" '' ''
@@ -14,7 +14,7 @@ gives "questions are bad lines here" 'B\t13\nK\t1E\t1\n?\tqueue\n?\n?\tlook\n?\t
     '1\t0\t-\n2\t0\t-\n3\t9\t-\n4\t9\t-\n5\t9\t-\n6\t9\t-\n7\t0\t1E\n'
 
 # The program and the model give the same for a file. Reads from a file come in whole blocks, those from a pipe do not.
-as_model() { timeout 60 target/bin/ikbd <"$1" | cmp - <("$models/model" <"$1"); }
+as_model() { timeout 60 crates/ikbd/out/ikbd <"$1" | cmp - <("$models/model" <"$1"); }
 
 for ((byte = 0; byte < 256; byte++)); do
     printf -v octal '\\%03o' "$byte"
@@ -56,7 +56,7 @@ count "input that ends without a line feed at and about the end of a block, in a
     printf 'M\t%d\t%d\nB\t88\n' $((held_limit % 64)) $((held_limit % 64))
 } >"$room/most"
 name="$(with_comma "$most_due") bytes in one line of output"
-as_model "$room/most" && [ "$(target/bin/ikbd <"$room/most" | tail -n 1 | wc -c)" -eq $((6 + 2 * most_due + 1)) ]
+as_model "$room/most" && [ "$(crates/ikbd/out/ikbd <"$room/most" | tail -n 1 | wc -c)" -eq $((6 + 2 * most_due + 1)) ]
 count "$name" $?
 
 # The lines have more bytes than the program may have memory.
@@ -65,7 +65,7 @@ long_line() { head -c 20000000 /dev/zero | tr '\0' T; }
     long_line
     printf '\nK\t1E\t1\n'
     long_line
-} | timeout 60 bash -c 'ulimit -v 16384 && exec target/bin/ikbd' |
+} | timeout 60 bash -c 'ulimit -v 16384 && exec crates/ikbd/out/ikbd' |
     cmp - <(printf "${header}1\t9\t-\n2\t0\t1E\n3\t9\t-\n")
 count "lines of 20 MB, with 16 MB of memory" $?
 
@@ -73,7 +73,7 @@ count "lines of 20 MB, with 16 MB of memory" $?
 answers_at_once() { # session, output
     local line half answer expected
     exec 3<"$1" 4<"$2"
-    coproc { exec timeout 60 target/bin/ikbd; }
+    coproc { exec timeout 60 crates/ikbd/out/ikbd; }
     # The header may come with the first answer.
     IFS= read -r line <&3
     printf '%s\n' "$line" >&"${COPROC[1]}"
@@ -94,12 +94,12 @@ next_answer() {
 count "each line is answered when it is entered" $?
 
 "$models/generate" 1 2000000 >"$room/long"
-timeout 20 target/bin/ikbd <"$room/long" >"$room/answers" && cmp "$room/answers" <("$models/model" <"$room/long")
+timeout 20 crates/ikbd/out/ikbd <"$room/long" >"$room/answers" && cmp "$room/answers" <("$models/model" <"$room/long")
 count "2,000,000 lines in one session, in less than 20 seconds" $?
 
-timeout 60 target/bin/ikbd </ | cmp - <(printf "$header")
+timeout 60 crates/ikbd/out/ikbd </ | cmp - <(printf "$header")
 count "a read that fails ends the input" $?
 # The input does not end, so that only the failed write can end the program.
-yes $'K\t1E\t1' | timeout 20 target/bin/ikbd >/dev/full
+yes $'K\t1E\t1' | timeout 20 crates/ikbd/out/ikbd >/dev/full
 [ "${PIPESTATUS[1]}" -eq 0 ]
 count "a write that fails ends the program" $?

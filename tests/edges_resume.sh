@@ -13,7 +13,7 @@ taken='0\t0\t-\n'
 refused='0\t5\t-\n'
 
 resumes() { # NAME, input, output after the header
-    printf -- "$2" | timeout 60 target/bin/resume | cmp - <(printf -- "$header$3")
+    printf -- "$2" | timeout 60 crates/resume/out/resume | cmp - <(printf -- "$header$3")
     count "resume: $1" $?
 }
 resumes "empty input is no saved line" '' "$refused$power_up"
@@ -36,7 +36,7 @@ resumes "questions and heads are bad lines here" '-\n?\tsave\n?\tload\t-\n=\t5\n
 resumes "a saved line is a bad line of a session" "-\n${key_down}K\t1E\t1\n" "${taken}1\t9\t-\n2\t0\t1E\n$key_down"
 
 # The program and the model give the same for a file.
-as_model_resumes() { timeout 60 target/bin/resume <"$1" | cmp - <("$models/model_resume" <"$1"); }
+as_model_resumes() { timeout 60 crates/resume/out/resume <"$1" | cmp - <("$models/model_resume" <"$1"); }
 
 status=0
 for ((byte = 0; byte < 256; byte++)); do
@@ -72,7 +72,7 @@ for ((place = 1; place < ${#line}; place += place < ${#line} - 4 ? 6 : 1)); do
         printf '%s' "${line:0:place}"
         IFS= read -r -t 0.005 answer <> <(:)
         printf '%sB\t80\nB\t01\n' "${line:place}"
-    } | timeout 60 target/bin/resume | cmp - <(printf "$header${taken}1\t0\t-\n2\t0\tF09E\n$key_down") || status=1
+    } | timeout 60 crates/resume/out/resume | cmp - <(printf "$header${taken}1\t0\t-\n2\t0\tF09E\n$key_down") || status=1
 done
 count "resume: a saved line that comes in two pieces" $status
 
@@ -81,16 +81,16 @@ count "resume: a saved line that comes in two pieces" $status
     long_line
     printf '\nK\t1E\t1\n'
     long_line
-} | timeout 60 bash -c 'ulimit -v 16384 && exec target/bin/resume' |
+} | timeout 60 bash -c 'ulimit -v 16384 && exec crates/resume/out/resume' |
     cmp - <(printf "$header${refused}1\t0\t1E\n2\t9\t-\n$key_down")
 count "resume: a first line of 20 MB, with 16 MB of memory" $?
-long_line | timeout 60 bash -c 'ulimit -v 16384 && exec target/bin/resume' | cmp - <(printf "$header$refused$power_up")
+long_line | timeout 60 bash -c 'ulimit -v 16384 && exec crates/resume/out/resume' | cmp - <(printf "$header$refused$power_up")
 count "resume: a first line of 20 MB without a line feed, with 16 MB of memory" $?
 
 # At a terminal each line is answered when it is entered, the first too, and the saved line comes at the end.
 resumes_at_once() { # saved line, session, output after the header and line 0
     local line half answer= expected
-    coproc { exec timeout 60 target/bin/resume; }
+    coproc { exec timeout 60 crates/resume/out/resume; }
     exec 3<"$2" 4<"$3" 5<&"${COPROC[0]}"
     half=$((${#1} / 2))
     printf '%s' "${1:0:half}" >&"${COPROC[1]}"
@@ -120,9 +120,9 @@ count "resume: each line is answered when it is entered, the first one too" $?
 { printf -- '-\n' && "$models/generate" 2 200000; } >"$room/first"
 as_model_resumes "$room/first"
 count "resume: 200,000 lines in one session" $?
-timeout 60 target/bin/resume </ | cmp - <(printf "$header$refused$power_up")
+timeout 60 crates/resume/out/resume </ | cmp - <(printf "$header$refused$power_up")
 count "resume: a read that fails ends the input" $?
 # The input does not end, so that only the failed write can end the program.
-{ printf -- '-\n' && yes T; } | timeout 20 target/bin/resume >/dev/full
+{ printf -- '-\n' && yes T; } | timeout 20 crates/resume/out/resume >/dev/full
 [ "${PIPESTATUS[1]}" -eq 0 ]
 count "resume: a write that fails ends the program" $?

@@ -2,7 +2,7 @@
 
 : >"$room/wrong"
 awk -v "expected=$room/expected" -f tests/fields.awk docs/SAVED.md >"$room/fields" &&
-    timeout 60 target/bin/vectors <"$room/fields" | tail -n +2 >"$room/answers" &&
+    timeout 60 crates/vectors/out/vectors <"$room/fields" | tail -n +2 >"$room/answers" &&
     awk -F '\t' -v "expected=$room/expected" '
         { getline line <expected; split(line, its) }
         $2 != its[1] || $3 != its[2] { print "docs/SAVED.md: " its[3] ": " $2 " and not " its[1]; wrong = 1 }

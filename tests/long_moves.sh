@@ -3,7 +3,7 @@
 # Every total of an axis, sent by a resume, by buttons and by motion: the packets are judged by the laws of the request,
 # which know neither the model's controller nor its splitting, and by what the model prints.
 long_moves=(timeout 60 "$models/long_moves" --ours)
-said=$("${long_moves[@]}" target/bin/ikbd)
+said=$("${long_moves[@]}" crates/ikbd/out/ikbd)
 status=$?
 [ "$status" -ne 124 ] || said="long_moves did not end in 60 seconds"
 printf '%s\n' "$said"
@@ -19,7 +19,7 @@ moves_differ() { # what is judged first, what the report says
     [ $? -eq 1 ] && [[ $said == "long moves differ: X "*"$2"* ]]
 }
 found_by_long_moves() { # what is wrong, what sends the first move that is, the law that it breaks
-    found_out "$1" target/bin/vectors "$models/model_vectors" --vectors
+    found_out "$1" crates/vectors/out/vectors "$models/model_vectors" --vectors
     moves_differ laws " sent by $2: $3"
     count "a wrong model is found out by the laws of long moves: $1" $?
     moves_differ model " sent by $2: the model gives something else"

@@ -6,7 +6,7 @@ read -r first last < <(awk '/^## / { first = $2; last = $4 } /^Request A7, / { p
 looks_of() { awk -v first="$first" -v last="$last" '/^=/ { session++ } session >= first && session <= last'; }
 looks_of <crates/vectors/stdout >"$room/looks"
 found_by_looks() { # what is wrong
-    found_out "$1" target/bin/vectors "$models/model_vectors" --vectors
+    found_out "$1" crates/vectors/out/vectors "$models/model_vectors" --vectors
     [ "$(MODEL_WRONG=$wrong "$models/model_vectors" <crates/vectors/stdin | looks_of | diff "$room/looks" - |
         grep -c '^> ')" -gt 0 ]
     count "a wrong model is found out by the stored sessions of A7: $1" $?

@@ -3,7 +3,7 @@
 # Long inputs of good and bad lines, what ikbd writes, and short strings; every list is the model's. A string has a run of
 # its own: there are 50,000 made at random, 12 with each first byte, and the empty input.
 compare_packets=(timeout 120 "$models/compare_packets" --seed 1)
-said=$("${compare_packets[@]}" --packets target/bin/packets --ikbd target/bin/ikbd --strings 50000 --bytes 200000)
+said=$("${compare_packets[@]}" --packets crates/packets/out/packets --ikbd crates/ikbd/out/ikbd --strings 50000 --bytes 200000)
 status=$?
 [ "$status" -ne 124 ] || said="compare_packets did not end in 120 seconds"
 printf '%s\n' "$said"
@@ -25,10 +25,10 @@ found_by_packets() { # what is wrong, the parts that find it
     local part ours
     wrong=$((wrong + 1))
     ours="env MODEL_WRONG=$wrong $models/model_packets"
-    packets_differ "" "$ours" target/bin/ikbd --strings 10000
+    packets_differ "" "$ours" crates/ikbd/out/ikbd --strings 10000
     count "a wrong model is found out by its packets: $1" $?
     for part in "${@:2}"; do
-        packets_differ "${where[$part]}" "$ours" target/bin/ikbd --part "$part"
+        packets_differ "${where[$part]}" "$ours" crates/ikbd/out/ikbd --part "$part"
         count "a wrong model is found out by $part alone: $1" $?
     done
 }
@@ -44,7 +44,7 @@ found_by_packets "a byte that starts no packet drops what follows on its line" s
 found_by_packets "F0 is named a break alone" strings sessions
 found_by_packets "a line of 32,768 bytes is read"
 # What is cut as the model cuts it is held also against what fell due: here a reset's breaks are missing.
-packets_differ "what is cut is not what fell due in a session" target/bin/packets "env MODEL_WRONG=10 $models/model" \
+packets_differ "what is cut is not what fell due in a session" crates/packets/out/packets "env MODEL_WRONG=10 $models/model" \
     --part sessions
 count "a wrong ikbd is found out by what fell due: a reset empties the map of keys" $?
 
@@ -53,7 +53,7 @@ count "crates/packets/stdout is the model's" $?
 
 listed='packet\tbytes\n'
 lists() { # NAME, input, output after the header
-    printf -- "$2" | timeout 60 target/bin/packets | cmp - <(printf -- "$listed$3")
+    printf -- "$2" | timeout 60 crates/packets/out/packets | cmp - <(printf -- "$listed$3")
     count "packets: $1" $?
 }
 lists "empty input gives the header alone" '' ''
@@ -117,7 +117,7 @@ lists "lines of 32,768, of 32,769 and of 65,524 bytes, and one of 32,768 without
 lists "a number of 32,762 digits, and of a digit more" "$digits\t0\t1E\n${digits}0\t0\t1E\n" 'make\t1E\nbad line 2\t-\n'
 
 # The program and the model give the same for a file. Reads from a file come in whole blocks, those from a pipe do not.
-as_model_lists() { timeout 60 target/bin/packets <"$1" | cmp - <("$models/model_packets" <"$1"); }
+as_model_lists() { timeout 60 crates/packets/out/packets <"$1" | cmp - <("$models/model_packets" <"$1"); }
 
 for ((byte = 0; byte < 256; byte++)); do
     printf -v octal '\\%03o' "$byte"
@@ -145,14 +145,14 @@ count "packets: input that ends without a line feed at and about the end of a bl
     long_line
     printf '\n1E9E\n'
     long_line
-} | timeout 60 bash -c 'ulimit -v 16384 && exec target/bin/packets' |
+} | timeout 60 bash -c 'ulimit -v 16384 && exec crates/packets/out/packets' |
     cmp - <(printf "${listed}bad line 2\t-\nmouse motion\tF81E9E\nbad line 4\t-\n")
 count "packets: lines of 20 MB, with 16 MB of memory" $?
 
 # At a terminal a packet is listed when the line is entered that makes it whole, and the bytes left over at the end.
 lists_at_once() {
     local answer
-    coproc { exec timeout 60 target/bin/packets; }
+    coproc { exec timeout 60 crates/packets/out/packets; }
     exec 5<&"${COPROC[0]}"
     # The header may come with the first packet.
     enters '1E\n' && next_listed $'packet\tbytes' && next_listed $'make\t1E' || return 1
@@ -171,14 +171,14 @@ count "packets: each packet is listed when the line is entered that makes it who
 # What ikbd prints for the long session of edges.sh, with its header; bad lines stand among it where their numbers get a
 # digit more, and behind it.
 awk '{ print; number++ } number ~ /^9999(9|99)?$/ { print "x"; number++ } END { print "x" }' "$room/answers" >"$room/spoiled"
-timeout 20 target/bin/packets <"$room/spoiled" >"$room/list" &&
+timeout 20 crates/packets/out/packets <"$room/spoiled" >"$room/list" &&
     cmp "$room/list" <("$models/model_packets" <"$room/spoiled") &&
     [ "$(grep '^bad' "$room/list")" = "$(printf 'bad line %d\t-\n' 10000 100000 1000000 2000005)" ]
 count "packets: the answers to 2,000,000 lines with 4 bad lines, in less than 20 seconds" $?
 
-timeout 60 target/bin/packets </ | cmp - <(printf "$listed")
+timeout 60 crates/packets/out/packets </ | cmp - <(printf "$listed")
 count "packets: a read that fails ends the input" $?
 # The input does not end, so that only the failed write can end the program.
-yes 1E | timeout 20 target/bin/packets >/dev/full
+yes 1E | timeout 20 crates/packets/out/packets >/dev/full
 [ "${PIPESTATUS[1]}" -eq 0 ]
 count "packets: a write that fails ends the program" $?

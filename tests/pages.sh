@@ -42,5 +42,5 @@ packets_of_page() { # what to print of each first byte: bytes, or rows
             }
         }' docs/PACKETS.md
 }
-packets_of_page bytes | timeout 60 target/bin/packets | tail -n +2 | cmp - <(packets_of_page rows)
+packets_of_page bytes | timeout 60 crates/packets/out/packets | tail -n +2 | cmp - <(packets_of_page rows)
 count "docs/PACKETS.md has the kind and length of every first byte" $?

@@ -1,5 +1,5 @@
 -- The clock: dates and times that exist, and a hundredth more (document 01, "Sticks, samples, clock"). Setting it is the next file.
-use Rattle.std.specs.Prelude.{ℕ, ◌+◌, ◌%◌, ◌≤◌, Bool, cond, ◌||◌, eqb, ltb}
+use Rattle.std.specs.Prelude.{ℕ, ◌+◌, ◌%◌, ◌≤◌, cond, ◌||◌, eqb, ltb}
 use Rattle.clock.specs.declared.Clock.{Clock}
 
 -- "February has 29 days when the year divides by 4."

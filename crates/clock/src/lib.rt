@@ -1,4 +1,6 @@
 // The time-of-day clock: year 0 to 99, and down to hundredths of a second. Its fields are plain numbers, not BCD.
+#![tactic(auto)]
+
 ghost use Rattle.std.specs.Prelude.{◌≡◌, ◌≤◌, min};
 ghost use Rattle.output.specs.Packets.{bytes_of};
 ghost use Rattle.output.specs.Short.{short_of};
@@ -7,7 +9,7 @@ ghost use Rattle.clock.specs.Setting.{TwoDigits, to_bcd, field, set_to, report};
 
 use output::Short;
 
-#[derive(Drop)]
+#[derive(Clone, Copy)]
 pub struct Clock {
     pub year: u8,
     pub month: u8,

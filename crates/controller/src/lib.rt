@@ -1,3 +1,5 @@
+#![tactic(auto)]
+
 mod apply;
 mod command;
 mod event;
@@ -21,13 +23,13 @@ use protocol::{Command, Settings};
 use sticks::Sticks;
 
 // Bytes kept back while output is paused: the first `len` of `bytes`; the others are 0.
-#[derive(Drop)]
+#[derive(Clone, Copy)]
 pub struct Queue {
     pub bytes: [u8; Queue::ROOM],
     pub len: usize,
 }
 
-#[derive(Drop)]
+#[derive(Clone, Copy)]
 pub struct State {
     pub settings: Settings,
     pub command: Command,
@@ -40,7 +42,7 @@ pub struct State {
 }
 
 // A host byte, or an event. Every value has an answer: a number outside its range is answered, not shut out.
-#[derive(Drop)]
+#[derive(Clone, Copy)]
 pub enum Input {
     Byte(u8),
     Key {
@@ -64,7 +66,7 @@ pub enum Input {
     Tick,
 }
 
-#[derive(Drop)]
+#[derive(Clone, Copy)]
 pub enum Answer {
     Taken,
     OutOfRange,
@@ -74,7 +76,7 @@ pub enum Answer {
 }
 
 // What a step hands back: `count` bytes stand at the start of the lent buffer.
-#[derive(Drop)]
+#[derive(Clone, Copy)]
 pub struct Stepped {
     pub answer: Answer,
     pub count: usize,
@@ -82,7 +84,7 @@ pub struct Stepped {
 }
 
 // The limits of the protocol, as one value.
-#[derive(Drop)]
+#[derive(Clone, Copy)]
 pub struct Limits {
     pub queue: usize,
     pub held: u16,
@@ -91,7 +93,7 @@ pub struct Limits {
 
 // The state without its queue, whose bytes are lent beside it: nothing that is handed on grows with the queue's room. The order of the
 // fields is one of those that cost the session's loop the fewest instructions (docs/DECISIONS.md has what was measured).
-#[derive(Drop)]
+#[derive(Clone, Copy)]
 pub struct Core {
     pub settings: Settings,
     pub keys: Keys,
@@ -103,7 +105,7 @@ pub struct Core {
 }
 
 // What an input came to: `count` bytes stand at the start of the lent buffer, and `waiting` bytes at the start of the lent queue.
-#[derive(Drop)]
+#[derive(Clone, Copy)]
 pub struct Applied {
     pub answer: Answer,
     pub count: usize,
@@ -112,7 +114,7 @@ pub struct Applied {
 }
 
 // What became of bytes that fell due: whether they were taken, and the answer, count and `waiting` of the input then.
-#[derive(Drop)]
+#[derive(Clone, Copy)]
 pub(crate) struct Sent {
     taken: bool,
     answer: Answer,
@@ -121,7 +123,7 @@ pub(crate) struct Sent {
 }
 
 // What an executed command does besides the settings: its own packet, and the parts afterwards.
-#[derive(Drop)]
+#[derive(Clone, Copy)]
 pub struct Acted {
     pub short: Short,
     pub mouse: Mouse,

@@ -6,7 +6,7 @@ ghost use Rattle.controller.specs.Look.{look_number, LookedAs, cleared};
 use crate::State;
 
 // What a look comes to.
-#[derive(Drop)]
+#[derive(Clone, Copy)]
 pub enum Look {
     Shown,
     NotAbsolute,
@@ -14,7 +14,7 @@ pub enum Look {
 }
 
 // The report's `count` bytes stand at the start of the lent buffer; 0 bytes where nothing is shown.
-#[derive(Drop)]
+#[derive(Clone, Copy)]
 pub struct Looked {
     pub answer: Look,
     pub count: usize,

@@ -52,7 +52,7 @@ zeros_are_bytes zero = tt
 zeros_are_bytes (suc n) = (omega arith, zeros_are_bytes n)
 
 -- what a controller comes to after an input it comes to from before it
-later : {c : Controller} {s t : State} (i : Input) (h : IsInput i) (lent : List ℕ) (l : AllBytes lent) → Later c (c s i lent).stepped.state t → Later c s t
+later : {c : Controller} {s : State} (i : Input) (h : IsInput i) (lent : List ℕ) (l : AllBytes lent) {t : State} → Later c (c s i lent).stepped.state t → Later c s t
 later i h lent l now = next now i h lent l
 later i h lent l (next before j g more k) = next (later i h lent l before) j g more k
 

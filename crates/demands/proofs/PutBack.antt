@@ -2,7 +2,7 @@
 -- Assumes nothing.
 use Prim.Native.Nat.{ℕ}
 use mathlib.Core.Path.{ap, ◌∙◌, fun_ext}
-use mathlib.Core.List.{List, []}
+use mathlib.Core.List.{List}
 use Rattle.protocol.specs.Replies.{in_order}
 use Rattle.protocol.proofs.Core.{Core, eats}
 use Rattle.protocol.proofs.PutBack as protocol

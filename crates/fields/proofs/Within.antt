@@ -1,6 +1,6 @@
 -- The numbers of a state all fit.
 -- Assumes nothing.
-use Prim.Native.Nat.{ℕ, zero, ◌+◌, ◌-◌, ◌%◌, ◌^◌, ◌≤◌, ◌<◌}
+use Prim.Native.Nat.{ℕ, ◌+◌, ◌-◌, ◌%◌, ◌^◌, ◌≤◌, ◌<◌}
 use native.Mathlib.Omega.{arith}
 use native.Mathlib.Nat.{min-eq_left}
 use mathlib.Core.Path.{◌≡◌, refl}
@@ -22,7 +22,7 @@ use Rattle.sticks.specs.declared.Stick.{Stick}
 use Rattle.sticks.specs.Sticks.{byte, most_samples}
 use Rattle.controller.specs.declared.State.{State}
 use Rattle.controller.specs.State.{IsState}
-use Rattle.fields.specs.Ranges.{low, high, gap_free, loading, most_bits, third, pending, ranges, held_most, all_fit}
+use Rattle.fields.specs.Ranges.{low, high, gap_free, loading, most_bits, third, pending, ranges, all_fit}
 use Rattle.fields.specs.Numbers.{role_number, held_number, settings_numbers, pointer_numbers, sticks_numbers, clock_numbers, command_numbers, numbers}
 use Rattle.fields.proofs.Facts.{Fits, AllFits, gathered}
 use Rattle.fields.proofs.Modes.{mouse_fits, stick_fits, maximum_x, maximum_y, ticks_same, samples_same, held_same}

@@ -1,5 +1,7 @@
 // The fields of a saved state that are numbers: a state as these numbers and back, and the range of each, given those before it. The map of
 // the keys and the queue stand beside them. The saved line is written from them; docs/SAVED.md numbers them.
+#![tactic(auto)]
+
 mod build;
 mod list;
 mod range;

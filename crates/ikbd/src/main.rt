@@ -1,11 +1,17 @@
 // The text program: a session from standard input, and its answers on standard output. What a line means and what is printed for
 // it stands in `text`; here blocks go in and out.
+#![tactic(auto)]
+
 ghost use Rattle.std.specs.Prelude.{◌≡◌, ◌+◌, ◌≤◌, ◌<◌, ◌^◌, length};
 ghost use Rattle.controller.specs.State.{IsState};
 ghost use Rattle.text.specs.Output.{header, line_room};
 
 use controller::State;
 use session::Session;
+use std::io::{Read, Write};
+
+// How many bytes a block has.
+const BLOCK: usize = 65_536;
 
 // How many blocks are read at most: more than any input has, and few enough that a line's number has 64 bits.
 const MOST_BLOCKS: u64 = 140_737_488_355_328;
@@ -18,18 +24,30 @@ pub struct Answered {
     pub written: bool,
 }
 
-// More input, behind what was kept of the block: how many bytes the block has then.
-fn read_on(kept: usize, block: &mut [u8]) -> usize
+// More input, behind what was kept of the block: how many bytes the block has then. A read that fails ends the input.
+fn read_on<R: Read>(input: &mut R, kept: usize, block: &mut [u8]) -> usize
     requires { kept ≤ length block.old }
     ensures { (kept ≤ result) × (result ≤ length block.old) }
 {
-    let free = &mut block[kept..];
-    let got = libc::read(0, free);
-    kept + io::count(got, free)
+    match input.read(&mut block[kept..]) {
+        Ok(got) => kept + got,
+        Err(_) => kept,
+    }
+}
+
+// Whether all of these bytes were written.
+fn write_all<W: Write>(output: &mut W, bytes: &[u8]) -> bool {
+    output.write_all(bytes).is_ok()
 }
 
 // The lines that end in a block. A write that fails ends the program.
-fn answer(session: Session, block: &[u8], lent: &mut [u8], out: &mut [u8]) -> Answered
+fn answer<W: Write>(
+    output: &mut W,
+    session: Session,
+    block: &[u8],
+    lent: &mut [u8],
+    out: &mut [u8],
+) -> Answered
     requires state { IsState session.state }
     requires block_bound { session.number + length block.now < 2 ^ 64 }
     requires lent_in_bounds { line_room (length lent.old) ≤ length out.old }
@@ -48,7 +66,7 @@ fn answer(session: Session, block: &[u8], lent: &mut [u8], out: &mut [u8]) -> An
                 written: true,
             };
         }
-        if !io::write_all(1, &out[..fed.count]) {
+        if !write_all(output, &out[..fed.count]) {
             return Answered {
                 session: now,
                 used: from,
@@ -66,15 +84,21 @@ fn answer(session: Session, block: &[u8], lent: &mut [u8], out: &mut [u8]) -> An
 }
 
 // The header: whether it was written.
-fn begin(out: &mut [u8]) -> bool
+fn begin<W: Write>(output: &mut W, out: &mut [u8]) -> bool
     requires { length header ≤ length out.old }
 {
     let n = text::write_header(out);
-    io::write_all(1, &out[..n])
+    write_all(output, &out[..n])
 }
 
 // The lines of the session, block by block.
-fn run(block: &mut [u8], lent: &mut [u8], out: &mut [u8])
+fn run<R: Read, W: Write>(
+    input: &mut R,
+    output: &mut W,
+    block: &mut [u8],
+    lent: &mut [u8],
+    out: &mut [u8],
+)
     requires block_len { length block.old ≡ 65536 }
     requires lent_in_bounds { line_room (length lent.old) ≤ length out.old }
 {
@@ -82,13 +106,13 @@ fn run(block: &mut [u8], lent: &mut [u8], out: &mut [u8])
     let mut kept = 0;
     let mut blocks = MOST_BLOCKS;
     while blocks > 0 {
-        let n = read_on(kept, block);
+        let n = read_on(input, kept, block);
         if n == kept {
             let end = session::finish(block, kept);
-            answer(session, &block[..end], lent, out);
+            answer(output, session, &block[..end], lent, out);
             return;
         }
-        let done = answer(session, &block[..n], lent, out);
+        let done = answer(output, session, &block[..n], lent, out);
         if !done.written {
             return;
         }
@@ -98,11 +122,13 @@ fn run(block: &mut [u8], lent: &mut [u8], out: &mut [u8])
     }
 }
 
-fn main() {
-    let mut block = io::large_buffer();
+fn main(rt: HostRuntime) {
+    let mut input = rt.stdin();
+    let mut output = rt.stdout();
+    let mut block = [0; BLOCK];
     let mut lent = [0; State::MOST_DUE];
-    let mut out = io::large_buffer();
-    if begin(&mut out) {
-        run(&mut block, &mut lent, &mut out);
+    let mut out = [0; BLOCK];
+    if begin(&mut output, &mut out) {
+        run(&mut input, &mut output, &mut block, &mut lent, &mut out);
     }
 }

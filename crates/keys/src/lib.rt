@@ -1,4 +1,6 @@
 // Which keys are down: a bit for each of the keys 1 to 0x72, in two words.
+#![tactic(auto)]
+
 ghost use Rattle.std.specs.Prelude.{◌≡◌, ◌+◌, ◌-◌, ◌≤◌, ◌<◌, ◌^◌, length};
 ghost use Rattle.output.specs.ScanCodes.{first_key, last_key};
 ghost use Rattle.output.specs.Packets.{bytes};
@@ -9,7 +11,7 @@ ghost use Rattle.keys.specs.Keys.{no_keys, struck, held, breaks, break_packets, 
 use output::ScanCode;
 
 // The lowest bit of `low` is key 1, the lowest of `high` the key after the last of `low`.
-#[derive(Drop)]
+#[derive(Clone, Copy)]
 pub struct Keys {
     pub low: u64,
     pub high: u64,

@@ -1,7 +1,6 @@
 -- Whole inputs of `packets`, computed: what the text program prints for document 01's example, and bad lines between the bytes of a packet.
 -- Assumes nothing.
 use mathlib.Core.Path.{◌≡◌, refl}
-use lib.ListN.{length}
 use Rattle.output.specs.ScanCodes.{is_make, is_break}
 use Rattle.text.specs.Line.{hex_digit}
 use Rattle.text.specs.Fronts.{until}

@@ -80,6 +80,7 @@ alone l TooFew e = (refl, refl)
 alone l NoPacket e = at l (cut_says e)
   where
     at : (l : List ℕ) → Says l NoPacket → (pieces (take 1 l) ≡ off NoPacket (take 1 l)) × (left (take 1 l) ≡ [])
+    at [] w = elim w [ ]
     at (b ∷ l) (starts_none f) = (cut_in_turn (b ∷ [])).others (sym (is_cut (b ∷ []) NoPacket (starts_none f)))
 
 -- it comes behind what was taken before

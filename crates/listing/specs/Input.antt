@@ -2,7 +2,7 @@
 -- hexadecimal digits each with nothing between, or `-` for none; or one that the text program prints, of which the last field counts.
 use Rattle.std.specs.Prelude.{ℕ, suc, ◌+◌, ◌*◌, ◌≡◌, Bool, true, false, cond, ◌&&◌, List, [], ◌∷◌, eqb, leb, ltb, length, drop}
 use Rattle.output.specs.Writing.{over}
-use Rattle.text.specs.Line.{tab, hex_digit, digits}
+use Rattle.text.specs.Line.{hex_digit, digits}
 use Rattle.text.specs.Fronts.{first}
 use Rattle.text.specs.Output.{text}
 use Rattle.listing.specs.declared.input.LineRead.{LineRead}

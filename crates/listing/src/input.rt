@@ -5,7 +5,7 @@ ghost use Rattle.text.specs.Fronts.{first};
 ghost use Rattle.listing.specs.Input.{same, is_number, is_hex, spelt, field_bytes, answer_bytes, longest, line_of, ReadsBytes};
 
 // What was read: so many bytes, or that the line is bad.
-#[derive(Drop)]
+#[derive(Clone, Copy)]
 pub enum LineRead {
     Good(usize),
     BadLine,

@@ -1,4 +1,6 @@
 // The lines of `packets`, the program for whoever reads what the controller sends: bytes in hexadecimal in, packets out.
+#![tactic(auto)]
+
 ghost use Rattle.std.specs.Prelude.{◌≡◌, ◌≤◌, length, take};
 ghost use Rattle.receiver.specs.declared.Cut.TheVariants.{TooFew};
 ghost use Rattle.receiver.specs.Cut.{cut};
@@ -23,7 +25,7 @@ pub const MOST_BYTES: usize = MOST_LEFT + input::LONGEST / 2 + 1;
 pub const LISTING_ROOM: usize = 23 * MOST_BYTES + rows::ROW_ROOM;
 
 // What a line came to: how many bytes wait for more, at the start of `bytes`, and how many were printed.
-#[derive(Drop)]
+#[derive(Clone, Copy)]
 pub struct Listed {
     pub waiting: usize,
     pub count: usize,

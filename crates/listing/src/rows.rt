@@ -7,7 +7,7 @@ ghost use Rattle.listing.specs.Listing.{Lists, ListsFirst};
 use receiver::{Cut, Kind};
 
 // What bytes came to: how many of them are in the rows, and how many bytes the rows have.
-#[derive(Drop)]
+#[derive(Clone, Copy)]
 pub struct Rows {
     pub used: usize,
     pub count: usize,

@@ -1,24 +1,26 @@
 // Mouse motion along an axis, as two sides of which one is 0: its value is `plus` less `minus`.
+#![tactic(auto)]
+
 ghost use Rattle.std.specs.Prelude.{◌≡◌, ◌+◌, ◌-◌, ◌≤◌, min, max};
 ghost use Rattle.motion.specs.Motion.{at_rest, of_signed, sum, opposite, size, reaches, quotient, remainder, packets_needed, coordinate_after};
 
 mod evenly;
 
-#[derive(Drop)]
+#[derive(Clone, Copy)]
 pub struct Motion {
     pub plus: u16,
     pub minus: u16,
 }
 
 // Motion along both axes: x to the right, y toward the user, or away from the user where an origin at the bottom has negated it.
-#[derive(Drop)]
+#[derive(Clone, Copy)]
 pub struct Motions {
     pub x: Motion,
     pub y: Motion,
 }
 
 // What is kept before each packet: every packet carries `each`, a byte in two's complement, and 1 more whenever the `rest` that the division left has added up to the number of packets; `error` is what has added up.
-#[derive(Drop)]
+#[derive(Clone, Copy)]
 pub struct Spread {
     pub packets: u16,
     pub each: u8,

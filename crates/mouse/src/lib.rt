@@ -1,4 +1,6 @@
 // The mouse: coordinates of absolute mode, motion held back, button levels, and the latches that 0x0D reports.
+#![tactic(auto)]
+
 ghost use Rattle.std.specs.Prelude.{◌≡◌};
 ghost use Rattle.mouse.specs.Mouse.{at_power_up, live, no_latches};
 
@@ -13,7 +15,7 @@ mod report;
 mod send;
 
 // Which buttons went down or up, live in absolute mode, since the last 0x0D or clearing.
-#[derive(Drop)]
+#[derive(Clone, Copy)]
 pub struct Latches {
     pub rightdown: bool,
     pub rightup: bool,
@@ -21,7 +23,7 @@ pub struct Latches {
     pub leftup: bool,
 }
 
-#[derive(Drop)]
+#[derive(Clone, Copy)]
 pub struct Mouse {
     pub place: Point,
     pub held: Motions,
@@ -31,7 +33,7 @@ pub struct Mouse {
 }
 
 // The two buttons of the mouse.
-#[derive(Drop)]
+#[derive(Clone, Copy)]
 pub enum Side {
     Left,
     Right,
@@ -39,7 +41,7 @@ pub enum Side {
 
 // What is sent of held motion: `packets` packets of `held` with these button levels, and arrow keys, of which there are none where
 // there are packets. Whoever writes it asks its length first.
-#[derive(Drop)]
+#[derive(Clone, Copy)]
 pub struct Sending {
     pub packets: u16,
     pub left: bool,
@@ -49,14 +51,14 @@ pub struct Sending {
 }
 
 // What motion, or a resume, comes to.
-#[derive(Drop)]
+#[derive(Clone, Copy)]
 pub struct Moved {
     pub sending: Sending,
     pub mouse: Mouse,
 }
 
 // What a button comes to: held motion is sent, or a short packet, or nothing.
-#[derive(Drop)]
+#[derive(Clone, Copy)]
 pub struct Pressed {
     pub sending: Sending,
     pub short: Short,
@@ -64,7 +66,7 @@ pub struct Pressed {
 }
 
 // What a command of the mouse comes to.
-#[derive(Drop)]
+#[derive(Clone, Copy)]
 pub struct Commanded {
     pub short: Short,
     pub mouse: Mouse,

@@ -1,5 +1,5 @@
 -- What goes out, in packets: a case for each kind, and the bytes of each. Which packets fall due, and when, is said elsewhere.
-use Rattle.std.specs.Prelude.{ℕ, zero, suc, ◌+◌, ◌*◌, ◌/◌, ◌%◌, Bool, cond, List, [], ◌∷◌, ◌++◌}
+use Rattle.std.specs.Prelude.{ℕ, zero, suc, ◌+◌, ◌/◌, ◌%◌, Bool, cond, List, [], ◌∷◌, ◌++◌}
 use Rattle.output.specs.ScanCodes.{break_of}
 
 -- one bit of a byte

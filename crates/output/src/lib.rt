@@ -1,4 +1,6 @@
 // What goes out: short runs of bytes, and writing into a lent buffer. Packets and their bytes are defined in specs/.
+#![tactic(auto)]
+
 ghost use Rattle.std.specs.Prelude.{◌≡◌, ◌∷◌, [], ◌+◌, ◌*◌, ◌≤◌, ◌<◌, length, take};
 ghost use Rattle.output.specs.ScanCodes.{break_of, code_sent};
 ghost use Rattle.output.specs.Packets.{bytes, pairs};
@@ -7,7 +9,7 @@ ghost use Rattle.output.specs.Writing.{Wrote};
 
 // Make codes by name, as specs/ScanCodes.antt has them: the first and the last key of the keyboard, the arrows that stand for motion, and
 // the mouse's buttons and the sticks' triggers as keys.
-#[derive(Drop)]
+#[derive(Clone, Copy)]
 pub struct ScanCode;
 
 impl ScanCode {
@@ -29,7 +31,7 @@ impl ScanCode {
 }
 
 // Up to eight bytes that go out together: the first `len` of `bytes`. What stands past them is not sent.
-#[derive(Drop)]
+#[derive(Clone, Copy)]
 pub struct Short {
     pub bytes: [u8; 8],
     pub len: usize,

@@ -1,10 +1,17 @@
 // Lists the packets in what the controller sends: bytes in hexadecimal from standard input, a row for each packet on standard output. What
 // a line gives and what is printed for it stands in `listing`; here blocks go in and out.
+#![tactic(auto)]
+
 ghost use Rattle.std.specs.Prelude.{◌≡◌, ◌+◌, ◌≤◌, ◌<◌, ◌^◌, length, take};
 ghost use Rattle.receiver.specs.declared.Cut.TheVariants.{TooFew};
 ghost use Rattle.receiver.specs.Cut.{cut};
 ghost use Rattle.listing.specs.Rows.{header};
 ghost use Rattle.listing.specs.Listing.{most_bytes, listing_room};
+
+use std::io::{Read, Write};
+
+// How many bytes a block has.
+const BLOCK: usize = 65_536;
 
 // How many blocks are read at most: more than any input has, and few enough that a line's number has 64 bits.
 const MOST_BLOCKS: u64 = 140_737_488_355_328;
@@ -51,17 +58,17 @@ fn rows_buffer() -> [u8; 393216]
 }
 
 // The first `at` bytes, if all before them were written: whether they were. A write that fails ends the program.
-fn write_out(at: usize, written: bool, out: &[u8]) -> bool
+fn write_out<W: Write>(output: &mut W, at: usize, written: bool, out: &[u8]) -> bool
     requires { at ≤ length out.now }
 {
     if written {
-        return io::write_all(1, &out[..at]);
+        return write_all(output, &out[..at]);
     }
     false
 }
 
 // Room for the rows of one line.
-fn make_room(at: usize, written: bool, out: &[u8]) -> Free
+fn make_room<W: Write>(output: &mut W, at: usize, written: bool, out: &[u8]) -> Free
     requires { (at ≤ length out.now) × (listing_room most_bytes ≤ length out.now) }
     ensures { result.at + listing_room most_bytes ≤ length out.now }
 {
@@ -70,19 +77,25 @@ fn make_room(at: usize, written: bool, out: &[u8]) -> Free
     }
     Free {
         at: 0,
-        written: write_out(at, written, out),
+        written: write_out(output, at, written, out),
     }
 }
 
 // One line, without its line feed.
-fn take_line(going: Going, line: &[u8], bytes: &mut [u8], out: &mut [u8]) -> Going
+fn take_line<W: Write>(
+    output: &mut W,
+    going: Going,
+    line: &[u8],
+    bytes: &mut [u8],
+    out: &mut [u8],
+) -> Going
     requires waiting_le_most_bytes { (going.waiting ≤ most_bytes) × (cut (take going.waiting bytes.old) ≡ TooFew) }
     requires number_bound { (going.number + 1 < 2 ^ 64) × (going.at ≤ length out.old) }
     requires bytes_len { (length bytes.old ≡ most_bytes) × (listing_room most_bytes ≤ length out.old) }
     ensures waiting_le_most_bytes_2 { (result.waiting ≤ most_bytes) × (cut (take result.waiting bytes.new) ≡ TooFew) }
     ensures number_value { (result.number ≡ going.number + 1) × (result.at ≤ length out.old) }
 {
-    let free = make_room(going.at, going.written, out);
+    let free = make_room(output, going.at, going.written, out);
     let at = free.at;
     let done = listing::list_line(going.number, line, going.waiting, bytes, &mut out[at..]);
     Going {
@@ -94,7 +107,13 @@ fn take_line(going: Going, line: &[u8], bytes: &mut [u8], out: &mut [u8]) -> Goi
 }
 
 // The lines that end in a block: their rows, some of them still to be written.
-fn list_lines(going: Going, block: &[u8], bytes: &mut [u8], out: &mut [u8]) -> Answered
+fn list_lines<W: Write>(
+    output: &mut W,
+    going: Going,
+    block: &[u8],
+    bytes: &mut [u8],
+    out: &mut [u8],
+) -> Answered
     requires waiting_le_most_bytes { (going.waiting ≤ most_bytes) × (cut (take going.waiting bytes.old) ≡ TooFew) }
     requires block_bound { (going.number + length block.now < 2 ^ 64) × (going.at ≤ length out.old) }
     requires bytes_len { (length bytes.old ≡ most_bytes) × (listing_room most_bytes ≤ length out.old) }
@@ -113,7 +132,7 @@ fn list_lines(going: Going, block: &[u8], bytes: &mut [u8], out: &mut [u8]) -> A
                 used: from,
             };
         }
-        now = take_line(now, &block[from..end], bytes, out);
+        now = take_line(output, now, &block[from..end], bytes, out);
         from = end + 1;
     }
     Answered {
@@ -122,18 +141,30 @@ fn list_lines(going: Going, block: &[u8], bytes: &mut [u8], out: &mut [u8]) -> A
     }
 }
 
-// More input, behind what was kept of the block: how many bytes the block has then.
-fn read_on(kept: usize, block: &mut [u8]) -> usize
+// More input, behind what was kept of the block: how many bytes the block has then. A read that fails ends the input.
+fn read_on<R: Read>(input: &mut R, kept: usize, block: &mut [u8]) -> usize
     requires { kept ≤ length block.old }
     ensures { (kept ≤ result) × (result ≤ length block.old) }
 {
-    let free = &mut block[kept..];
-    let got = libc::read(0, free);
-    kept + io::count(got, free)
+    match input.read(&mut block[kept..]) {
+        Ok(got) => kept + got,
+        Err(_) => kept,
+    }
+}
+
+// Whether all of these bytes were written.
+fn write_all<W: Write>(output: &mut W, bytes: &[u8]) -> bool {
+    output.write_all(bytes).is_ok()
 }
 
 // The lines that end in a block, and all their rows are written.
-fn answer(going: Going, block: &[u8], bytes: &mut [u8], out: &mut [u8]) -> Answered
+fn answer<W: Write>(
+    output: &mut W,
+    going: Going,
+    block: &[u8],
+    bytes: &mut [u8],
+    out: &mut [u8],
+) -> Answered
     requires waiting_le_most_bytes { (going.waiting ≤ most_bytes) × (cut (take going.waiting bytes.old) ≡ TooFew) }
     requires block_bound { (going.number + length block.now < 2 ^ 64) × (going.at ≤ length out.old) }
     requires bytes_len { (length bytes.old ≡ most_bytes) × (listing_room most_bytes ≤ length out.old) }
@@ -141,8 +172,8 @@ fn answer(going: Going, block: &[u8], bytes: &mut [u8], out: &mut [u8]) -> Answe
     ensures number_bound { (result.going.number ≤ going.number + result.used) × (result.going.at ≡ 0) }
     ensures used_in_bounds { result.used ≤ length block.now }
 {
-    let done = list_lines(going, block, bytes, out);
-    let written = write_out(done.going.at, done.going.written, out);
+    let done = list_lines(output, going, block, bytes, out);
+    let written = write_out(output, done.going.at, done.going.written, out);
     Answered {
         going: Going {
             number: done.going.number,
@@ -155,18 +186,24 @@ fn answer(going: Going, block: &[u8], bytes: &mut [u8], out: &mut [u8]) -> Answe
 }
 
 // At the end of the input: its last line, and the bytes that are left, if there are any.
-fn end(going: Going, line: &[u8], bytes: &mut [u8], out: &mut [u8])
+fn end<W: Write>(output: &mut W, going: Going, line: &[u8], bytes: &mut [u8], out: &mut [u8])
     requires waiting_le_most_bytes { (going.waiting ≤ most_bytes) × (cut (take going.waiting bytes.old) ≡ TooFew) }
     requires line_bound { (going.number + length line.now < 2 ^ 64) × (going.at ≤ length out.old) }
     requires bytes_len { (length bytes.old ≡ most_bytes) × (listing_room most_bytes ≤ length out.old) }
 {
-    let done = answer(going, line, bytes, out);
+    let done = answer(output, going, line, bytes, out);
     let n = listing::write_left(&bytes[..done.going.waiting], out);
-    write_out(n, done.going.written, out);
+    write_out(output, n, done.going.written, out);
 }
 
 // The lines of the input, block by block.
-fn run(block: &mut [u8], bytes: &mut [u8], out: &mut [u8])
+fn run<R: Read, W: Write>(
+    input: &mut R,
+    output: &mut W,
+    block: &mut [u8],
+    bytes: &mut [u8],
+    out: &mut [u8],
+)
     requires block_len { length block.old ≡ 65536 }
     requires bytes_len { (length bytes.old ≡ most_bytes) × (listing_room most_bytes ≤ length out.old) }
 {
@@ -179,13 +216,13 @@ fn run(block: &mut [u8], bytes: &mut [u8], out: &mut [u8])
     let mut kept = 0;
     let mut blocks = MOST_BLOCKS;
     while blocks > 0 {
-        let n = read_on(kept, block);
+        let n = read_on(input, kept, block);
         if n == kept {
             let last = session::finish(block, kept);
-            end(going, &block[..last], bytes, out);
+            end(output, going, &block[..last], bytes, out);
             return;
         }
-        let done = answer(going, &block[..n], bytes, out);
+        let done = answer(output, going, &block[..n], bytes, out);
         if !done.going.written {
             return;
         }
@@ -196,18 +233,20 @@ fn run(block: &mut [u8], bytes: &mut [u8], out: &mut [u8])
 }
 
 // The header: whether it was written.
-fn begin(out: &mut [u8]) -> bool
+fn begin<W: Write>(output: &mut W, out: &mut [u8]) -> bool
     requires { length header ≤ length out.old }
 {
     let n = listing::write_header(out);
-    io::write_all(1, &out[..n])
+    write_all(output, &out[..n])
 }
 
-fn main() {
-    let mut block = io::large_buffer();
+fn main(rt: HostRuntime) {
+    let mut input = rt.stdin();
+    let mut output = rt.stdout();
+    let mut block = [0; BLOCK];
     let mut bytes = bytes_buffer();
     let mut out = rows_buffer();
-    if begin(&mut out) {
-        run(&mut block, &mut bytes, &mut out);
+    if begin(&mut output, &mut out) {
+        run(&mut input, &mut output, &mut block, &mut bytes, &mut out);
     }
 }

@@ -12,7 +12,7 @@ use Rattle.protocol.specs.declared.Axes.{Axes}
 use Rattle.protocol.specs.declared.MouseMode.{MouseMode}
 use Rattle.protocol.specs.declared.MouseMode.TheVariants.{Relative, Absolute, Keycode}
 use Rattle.protocol.specs.declared.StickMode.{StickMode}
-use Rattle.protocol.specs.declared.StickMode.TheVariants.{Event, Interrogation, Monitoring, Fire, StickKeycode}
+use Rattle.protocol.specs.declared.StickMode.TheVariants.{Event, Interrogation, Monitoring, Fire}
 use Rattle.protocol.specs.declared.Role.{Role}
 use Rattle.protocol.specs.declared.Role.TheVariants.{ForMouse, ForJoystick}
 use Rattle.protocol.specs.declared.Settings.{Settings}

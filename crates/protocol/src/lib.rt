@@ -1,4 +1,6 @@
 // Commands and settings: what the host can set, and a command of which not all bytes have come.
+#![tactic(auto)]
+
 ghost use Rattle.std.specs.Prelude.{◌≡◌};
 ghost use Rattle.protocol.specs.Reading.{no_command};
 ghost use Rattle.protocol.specs.Settings.{power_up, acts_as, monitors, is_absolute, is_mouse};
@@ -12,20 +14,20 @@ pub use code::{meaning_of, parameters_of};
 pub use set::word;
 
 // A byte for each axis of the mouse: thresholds, scales, deltas.
-#[derive(Drop)]
+#[derive(Clone, Copy)]
 pub struct Axes {
     pub x: u8,
     pub y: u8,
 }
 
 // A place in absolute mode: the coordinates, or their maximum.
-#[derive(Drop)]
+#[derive(Clone, Copy)]
 pub struct Point {
     pub x: u16,
     pub y: u16,
 }
 
-#[derive(Drop)]
+#[derive(Clone, Copy)]
 pub enum MouseMode {
     Relative,
     Absolute { maximum: Point },
@@ -34,7 +36,7 @@ pub enum MouseMode {
 
 // How an arrow key repeats along an axis, in tenths of a second: every `before` (the protocol's T) up to the
 // `breakpoint` (R), and every `after` (V) from then on.
-#[derive(Drop)]
+#[derive(Clone, Copy)]
 pub struct Repeat {
     pub breakpoint: u8,
     pub before: u8,
@@ -42,7 +44,7 @@ pub struct Repeat {
 }
 
 // In keycode mode the stick gives arrow keys. (The mouse has a keycode mode of its own.)
-#[derive(Drop)]
+#[derive(Clone, Copy)]
 pub enum StickMode {
     Event,
     Interrogation,
@@ -52,13 +54,13 @@ pub enum StickMode {
 }
 
 // What port 0 is taken for.
-#[derive(Drop)]
+#[derive(Clone, Copy)]
 pub enum Role {
     ForMouse,
     ForJoystick,
 }
 
-#[derive(Drop)]
+#[derive(Clone, Copy)]
 pub struct Settings {
     pub mouse: MouseMode,
     pub action: u8,
@@ -72,7 +74,7 @@ pub struct Settings {
 }
 
 // What a command code means. 0x07 to 0x10: the mouse's commands, which make port 0 a mouse.
-#[derive(Drop)]
+#[derive(Clone, Copy)]
 pub enum MouseCommand {
     SetAction,
     SetRelative,
@@ -87,7 +89,7 @@ pub enum MouseCommand {
 }
 
 // 0x14 to 0x1A: the joysticks' commands, which make port 0 a joystick.
-#[derive(Drop)]
+#[derive(Clone, Copy)]
 pub enum StickCommand {
     SetEvent,
     SetInterrogation,
@@ -99,7 +101,7 @@ pub enum StickCommand {
 }
 
 // 0x11, 0x12, 0x1B and 0x1C leave port 0's role.
-#[derive(Drop)]
+#[derive(Clone, Copy)]
 pub enum OtherCommand {
     Resume,
     MouseOff,
@@ -108,7 +110,7 @@ pub enum OtherCommand {
 }
 
 // The eight inquiries: 87 88 8B 8C 8F 92 of the mouse, 94 9A of the sticks.
-#[derive(Drop)]
+#[derive(Clone, Copy)]
 pub enum Inquiry {
     AskAction,
     AskMouse,
@@ -121,7 +123,7 @@ pub enum Inquiry {
 }
 
 // `Nothing`: a code that does nothing. `Memory`: the three memory commands, read to their end and ignored.
-#[derive(Drop)]
+#[derive(Clone, Copy)]
 pub enum Meaning {
     Nothing,
     Memory,
@@ -135,7 +137,7 @@ pub enum Meaning {
 
 // A half-received command: its code, how many parameter bytes have come, those bytes, and how many data bytes of a
 // memory load (0x20) are still to come. Code 0: none is half received.
-#[derive(Drop)]
+#[derive(Clone, Copy)]
 pub struct Command {
     pub code: u8,
     pub come: u8,
@@ -144,7 +146,7 @@ pub struct Command {
 }
 
 // What a host byte came to: a whole command with its code and parameters, or not; and the half-received command afterwards.
-#[derive(Drop)]
+#[derive(Clone, Copy)]
 pub struct Received {
     pub whole: bool,
     pub code: u8,

@@ -3,8 +3,8 @@
 use Prim.Native.Nat.{ℕ, zero, suc, ◌≤◌, ◌<◌}
 use native.Mathlib.Omega.{arith}
 use mathlib.Core.Path.{◌≡◌, refl, sym, ap, ◌∙◌, subst}
-use mathlib.Core.Bool.{Bool, true, false, cond, ◌&&◌, ◌||◌}
-use mathlib.Core.List.{List, [], ◌∷◌, ◌++◌}
+use mathlib.Core.Bool.{Bool, true, false, cond, ◌&&◌}
+use mathlib.Core.List.{List, [], ◌∷◌}
 use lib.Dec.{eqb, leb, ltb}
 use lib.ListN.{length, take, length-append, length-take}
 use borrow.Author.Tests.{eqb-true, ltb-true, ltb-false}
@@ -55,6 +55,8 @@ says (b ∷ l) = at (start b) refl
 -- what is cut, where one of the three is known
 pub is_cut : (l : List ℕ) (c : Cut) → Says l c → c ≡ cut l
 unfolding cut
+is_cut [] NoPacket w = elim w [ ]
+is_cut [] (Whole k n) w = elim w [ ]
 is_cut (b ∷ l) (Whole k n) (whole e h) = cut_whole (b ∷ l) (λ z. omega arith) refl e h
 is_cut [] TooFew empty = refl
 is_cut (b ∷ l) TooFew (few e h) = cut_few (b ∷ l) (λ z. omega arith) refl e h
@@ -102,6 +104,7 @@ pub decided_by_length : DecidedByLength
 decided_by_length bytes k n e = at bytes n (cut_says e)
   where
     at : (l : List ℕ) (n : ℕ) → Says l (Whole k n) → Decided l k n
+    at [] _ w = elim w [ ]
     at (b ∷ l) zero (whole f h) = let s = starts_short b f in absurd (omega (arith, s.0))
     at (b ∷ l) (suc n) (whole f h) = record {
       whatever_follows = λ rest. sym (is_cut _ _ (whole f (omega (arith, length-append (take n l) rest, length-take n l, h))));

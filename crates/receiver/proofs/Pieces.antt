@@ -1,8 +1,8 @@
 -- Cutting byte by byte is cutting packet by packet, and is the same in parts.
 -- Assumes nothing.
-use Prim.Native.Nat.{ℕ, zero, suc, ◌≤◌, ◌<◌}
+use Prim.Native.Nat.{ℕ, zero, suc, ◌≤◌}
 use native.Mathlib.Omega.{arith}
-use mathlib.Core.Path.{◌≡◌, refl, sym, ap, ◌∙◌, subst}
+use mathlib.Core.Path.{◌≡◌, refl, sym, ap, ◌∙◌}
 use mathlib.Core.List.{List, [], ◌∷◌, ◌++◌, append_assoc, append-nil}
 use lib.ListN.{length, take, drop, get_or, length-append}
 use lib.Seq.{take-suc, split_at}
@@ -70,7 +70,7 @@ waiting_few NoPacket l e = sym (is_cut [] TooFew empty)
 pub left_few : (p l : List ℕ) → cut p ≡ TooFew → cut (left_from p l) ≡ TooFew
 unfolding left_from
 left_few p [] e = e
-left_few p (b ∷ l) e = left_few _ l (waiting_few (cut (p ++ (b ∷ []))) (p ++ (b ∷ [])) refl)
+left_few p (b ∷ l) e = left_few (waiting (cut (p ++ (b ∷ []))) (p ++ (b ∷ []))) l (waiting_few (cut (p ++ (b ∷ []))) (p ++ (b ∷ [])) refl)
 
 -- no byte is too few
 pub none_waits : cut [] ≡ TooFew
@@ -114,11 +114,13 @@ cut_in_turn l = record {
   where
     packet_off : (l : List ℕ) (n : ℕ) {k : Kind} → cut l ≡ Whole k n → Says l (Whole k n) →
         (pieces l ≡ packet k (take n l) ∷ pieces (drop n l)) × (left l ≡ left (drop n l))
+    packet_off [] n {k = k} e w = elim w [ ]
     packet_off (b ∷ l) zero e (whole f h) = let s = starts_short b f in absurd (omega (arith, s.0))
     packet_off (b ∷ l) (suc m) e (whole f h) = let g = last_comes (b ∷ l) m e h in (g.pieces, g.left)
 
     none_off : (l : List ℕ) → cut l ≡ NoPacket → Says l NoPacket →
         (pieces l ≡ no_packet (take 1 l) ∷ pieces (drop 1 l)) × (left l ≡ left (drop 1 l))
+    none_off [] e w = elim w [ ]
     none_off (b ∷ l) e (none f) =
         let one : cut (b ∷ []) ≡ NoPacket = sym (is_cut (b ∷ []) NoPacket (none f)) in
         let g = given_by [] l b one in

@@ -3,10 +3,10 @@
 use Prim.Native.Nat.{ℕ, ◌+◌, ◌-◌, ◌≤◌, ◌<◌}
 use native.Mathlib.Omega.{arith}
 use mathlib.Core.Path.{◌≡◌, refl, sym, ap, ap₂, ◌∙◌}
-use mathlib.Core.Bool.{Bool, true, false, cond, ◌&&◌, ◌||◌, true≢false}
+use mathlib.Core.Bool.{Bool, true, false, ◌&&◌, ◌||◌, true≢false}
 use mathlib.Core.List.{List, [], ◌∷◌, ◌++◌, map}
 use lib.Dec.{eqb, leb, ltb}
-use lib.ListN.{length, take, drop, length-append}
+use lib.ListN.{length, length-append}
 use lib.Seq.{take-append_seam, drop-append_seam}
 use borrow.Author.Tests.{lt-ltb, le-ltb, ltb-true, ltb-false, leb-true, eqb-true}
 use Rattle.output.specs.ScanCodes.{is_make, is_break}
@@ -15,8 +15,7 @@ use Rattle.output.proofs.Cases.{and_true}
 use Rattle.output.proofs.Computed.{all_alike}
 use Rattle.output.proofs.Framed.{Framed, AllFramed}
 use Rattle.receiver.specs.declared.Kind.{Kind}
-use Rattle.receiver.specs.declared.Kind.TheVariants.{Make, Break, VersionOrBreak, Status, MousePosition, MouseMotion, Time, BothSticks, StickEvent}
-use Rattle.receiver.specs.declared.Start.{Start}
+use Rattle.receiver.specs.declared.Kind.TheVariants.{VersionOrBreak, Status, MousePosition, MouseMotion, Time, BothSticks, StickEvent}
 use Rattle.receiver.specs.declared.Start.TheVariants.{Starts}
 use Rattle.receiver.specs.declared.Cut.TheVariants.{Whole}
 use Rattle.receiver.specs.Cut.{start, cut}

@@ -1,9 +1,11 @@
 // The host's side of the wire: where the first packet of received bytes ends, and what kind it is.
+#![tactic(auto)]
+
 ghost use Rattle.std.specs.Prelude.{◌≡◌};
 ghost use Rattle.receiver.specs.Cut.{start, cut, length_of, number};
 
 // The kinds that a host can tell, each by the first byte.
-#[derive(Drop)]
+#[derive(Clone, Copy)]
 pub enum Kind {
     // a make code
     Make,
@@ -26,14 +28,14 @@ pub enum Kind {
 }
 
 // What a first byte starts.
-#[derive(Drop)]
+#[derive(Clone, Copy)]
 pub enum Start {
     Starts { kind: Kind, length: usize },
     StartsNone,
 }
 
 // The first packet of received bytes: its kind and its length; or that more bytes must come first; or that no packet begins so.
-#[derive(Drop)]
+#[derive(Clone, Copy)]
 pub enum Cut {
     Whole { kind: Kind, length: usize },
     TooFew,

@@ -1,6 +1,8 @@
 // Goes on from a saved state. The first line of the input is a saved line, or `-` for power-up; the rest is a session, as the text program
 // reads it. Printed are the header; the number 0, the answer of the reading and `-`; what the text program prints for the session; and the
 // saved line of the state at its end.
+#![tactic(auto)]
+
 ghost use Rattle.std.specs.Prelude.{◌≡◌, ◌+◌, ◌≤◌, ◌<◌, ◌^◌, length};
 ghost use Rattle.controller.specs.State.{IsState};
 ghost use Rattle.text.specs.Output.{header, line_room};
@@ -8,6 +10,10 @@ ghost use Rattle.text.specs.Output.{header, line_room};
 use controller::State;
 use saved::{Load, Loaded};
 use session::Session;
+use std::io::{Read, Write};
+
+// How many bytes a block has.
+const BLOCK: usize = 65_536;
 
 // How many blocks are read at most, of the first line and again of the session behind it: more than any input has, and few enough that a
 // line's number has 64 bits, that of a block which was read with the first line among them.
@@ -29,19 +35,25 @@ pub struct Answered {
     pub written: bool,
 }
 
-// More input, behind what was kept of the block: how many bytes the block has then.
-fn read_on(kept: usize, block: &mut [u8]) -> usize
+// More input, behind what was kept of the block: how many bytes the block has then. A read that fails ends the input.
+fn read_on<R: Read>(input: &mut R, kept: usize, block: &mut [u8]) -> usize
     requires { kept ≤ length block.old }
     ensures { (kept ≤ result) × (result ≤ length block.old) }
 {
-    let free = &mut block[kept..];
-    let got = libc::read(0, free);
-    kept + io::count(got, free)
+    match input.read(&mut block[kept..]) {
+        Ok(got) => kept + got,
+        Err(_) => kept,
+    }
+}
+
+// Whether all of these bytes were written.
+fn write_all<W: Write>(output: &mut W, bytes: &[u8]) -> bool {
+    output.write_all(bytes).is_ok()
 }
 
 // The first line of the input, up to its line feed or, where it has none, to the end of the input. Of a line that is longer than every
 // saved line, enough is kept to show that it is none.
-fn first_line(block: &mut [u8]) -> First
+fn first_line<R: Read>(input: &mut R, block: &mut [u8]) -> First
     requires { length block.old ≡ 65536 }
     ensures state { IsState result.loaded.state }
     ensures used_le_filled { (result.used ≤ result.filled) × (result.filled ≤ 65536) }
@@ -49,7 +61,7 @@ fn first_line(block: &mut [u8]) -> First
     let mut kept = 0;
     let mut blocks = MOST_BLOCKS;
     while blocks > 0 {
-        let n = read_on(kept, block);
+        let n = read_on(input, kept, block);
         let end = session::line_end(&block[..n], kept);
         if end < n {
             return First {
@@ -76,7 +88,13 @@ fn first_line(block: &mut [u8]) -> First
 }
 
 // The lines that end in a block. A write that fails ends the program.
-fn answer(session: Session, block: &[u8], lent: &mut [u8], out: &mut [u8]) -> Answered
+fn answer<W: Write>(
+    output: &mut W,
+    session: Session,
+    block: &[u8],
+    lent: &mut [u8],
+    out: &mut [u8],
+) -> Answered
     requires state { IsState session.state }
     requires block_bound { session.number + length block.now < 2 ^ 64 }
     requires lent_in_bounds { line_room (length lent.old) ≤ length out.old }
@@ -95,7 +113,7 @@ fn answer(session: Session, block: &[u8], lent: &mut [u8], out: &mut [u8]) -> An
                 written: true,
             };
         }
-        if !io::write_all(1, &out[..fed.count]) {
+        if !write_all(output, &out[..fed.count]) {
             return Answered {
                 session: now,
                 used: from,
@@ -113,7 +131,9 @@ fn answer(session: Session, block: &[u8], lent: &mut [u8], out: &mut [u8]) -> An
 }
 
 // The lines of the session, block by block: those that are in the block, from `used` to `filled`, and then those that follow.
-fn play(
+fn play<R: Read, W: Write>(
+    input: &mut R,
+    output: &mut W,
     state: State,
     used: usize,
     filled: usize,
@@ -127,6 +147,7 @@ fn play(
     ensures { IsState result.session.state }
 {
     let mut done = answer(
+        output,
         Session { state, number: 1 },
         &block[used..filled],
         lent,
@@ -138,12 +159,12 @@ fn play(
         if !done.written {
             return done;
         }
-        let n = read_on(kept, block);
+        let n = read_on(input, kept, block);
         if n == kept {
             let end = session::finish(block, kept);
-            return answer(done.session, &block[..end], lent, out);
+            return answer(output, done.session, &block[..end], lent, out);
         }
-        done = answer(done.session, &block[..n], lent, out);
+        done = answer(output, done.session, &block[..n], lent, out);
         kept = session::keep(block, done.used, n);
         blocks -= 1;
     }
@@ -151,45 +172,62 @@ fn play(
 }
 
 // The header: whether it was written.
-fn begin(out: &mut [u8]) -> bool
+fn begin<W: Write>(output: &mut W, out: &mut [u8]) -> bool
     requires { length header ≤ length out.old }
 {
     let n = text::write_header(out);
-    io::write_all(1, &out[..n])
+    write_all(output, &out[..n])
 }
 
 // The answer of the reading: whether it was written.
-fn tell(answer: Load, out: &mut [u8]) -> bool
+fn tell<W: Write>(output: &mut W, answer: Load, out: &mut [u8]) -> bool
     requires { line_room 0 ≤ length out.old }
 {
     let n = text::write_line(0, answer.number(), &[], 0, out);
-    io::write_all(1, &out[..n])
+    write_all(output, &out[..n])
 }
 
-fn run(block: &mut [u8], lent: &mut [u8], out: &mut [u8])
+fn run<R: Read, W: Write>(
+    input: &mut R,
+    output: &mut W,
+    block: &mut [u8],
+    lent: &mut [u8],
+    out: &mut [u8],
+)
     requires block_len { length block.old ≡ 65536 }
     requires lent_in_bounds { line_room (length lent.old) ≤ length out.old }
 {
-    let first = first_line(block);
+    let first = first_line(input, block);
     let loaded = first.loaded;
     let answer = loaded.answer;
     let state = loaded.state;
-    if !tell(answer, out) {
+    if !tell(output, answer, out) {
         return;
     }
-    let played = play(state, first.used, first.filled, block, lent, out);
+    let played = play(
+        input,
+        output,
+        state,
+        first.used,
+        first.filled,
+        block,
+        lent,
+        out,
+    );
     if played.written {
         let last = played.session.state;
         let line = saved::write(last, out);
-        io::write_all(1, &out[..line.count]);
+        write_all(output, &out[..line.count]);
     }
 }
 
-fn main() {
-    let mut block = io::large_buffer();
+fn main(rt: HostRuntime) {
+    let mut input = rt.stdin();
+    let mut output = rt.stdout();
+    let mut block = [0; BLOCK];
     let mut lent = [0; State::MOST_DUE];
-    let mut out = io::large_buffer();
-    if begin(&mut out) {
-        run(&mut block, &mut lent, &mut out);
+    let mut out = [0; BLOCK];
+    if begin(&mut output, &mut out) {
+        run(&mut input, &mut output, &mut block, &mut lent, &mut out);
     }
 }

@@ -1,4 +1,6 @@
 // A saved state as one line of text: written, and read again.
+#![tactic(auto)]
+
 mod put;
 mod scan;
 
@@ -12,28 +14,28 @@ ghost use Rattle.saved.specs.Answers.{save_number, load_number, loaded, begun, S
 use controller::{Queue, State};
 
 // What writing a line comes to.
-#[derive(Drop)]
+#[derive(Clone, Copy)]
 pub enum Save {
     Written,
     BufferShort,
 }
 
 // What reading a line comes to.
-#[derive(Drop)]
+#[derive(Clone, Copy)]
 pub enum Load {
     Whole,
     NoState,
 }
 
 // The line's `count` bytes stand at the start of the lent buffer; 0 bytes where it is too short.
-#[derive(Drop)]
+#[derive(Clone, Copy)]
 pub struct Saved {
     pub answer: Save,
     pub count: usize,
 }
 
 // The state that a line is of; power-up where it is of none.
-#[derive(Drop)]
+#[derive(Clone, Copy)]
 pub struct Loaded {
     pub answer: Load,
     pub state: State,

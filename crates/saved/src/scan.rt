@@ -14,7 +14,7 @@ use keys::Keys;
 use output::ScanCode;
 
 // A number, if it is well written, and where the text behind its tab begins.
-#[derive(Drop)]
+#[derive(Clone, Copy)]
 pub struct Found {
     pub well: bool,
     pub value: u16,
@@ -22,7 +22,7 @@ pub struct Found {
 }
 
 // All numbers of a line, if they are well written, and where the map begins.
-#[derive(Drop)]
+#[derive(Clone, Copy)]
 pub struct Scanned {
     pub well: bool,
     pub numbers: [u16; fields::COUNT],
@@ -30,14 +30,14 @@ pub struct Scanned {
 }
 
 // A word of the map, if its digits are well written.
-#[derive(Drop)]
+#[derive(Clone, Copy)]
 pub struct Word {
     pub well: bool,
     pub bits: u64,
 }
 
 // The map of the keys, if it is well written.
-#[derive(Drop)]
+#[derive(Clone, Copy)]
 pub struct Mapped {
     pub well: bool,
     pub keys: Keys,

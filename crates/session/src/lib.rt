@@ -1,4 +1,6 @@
 // A session of the text program: one line after the other, in whatever blocks they come.
+#![tactic(auto)]
+
 ghost use Rattle.std.specs.Prelude.{◌≡◌, ◌≤◌, ◌<◌, length};
 ghost use Rattle.output.specs.Writing.{Wrote};
 ghost use Rattle.controller.specs.State.{IsState};
@@ -20,7 +22,7 @@ pub use lines::{Fed, Session, finish, keep, keep_most, line_end};
 pub(crate) const BAD_LINE: u8 = 9;
 
 // What a line came to: the state afterwards, and how many bytes were printed.
-#[derive(Drop)]
+#[derive(Clone, Copy)]
 pub struct Played {
     pub state: State,
     pub count: usize,

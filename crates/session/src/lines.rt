@@ -12,14 +12,14 @@ use controller::State;
 use text::Read;
 
 // A session between two lines: the state, and the number of the next line.
-#[derive(Drop)]
+#[derive(Clone, Copy)]
 pub struct Session {
     pub state: State,
     pub number: u64,
 }
 
 // What a text came to: how many of its bytes were lines that are answered, and how many bytes were printed.
-#[derive(Drop)]
+#[derive(Clone, Copy)]
 pub struct Fed {
     pub session: Session,
     pub used: usize,

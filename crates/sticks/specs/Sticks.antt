@@ -1,5 +1,5 @@
 -- The joysticks' part of the state: ranges, power-up, bytes and directions (document 01, "What the state holds" and "Sticks, samples, clock").
-use Rattle.std.specs.Prelude.{ℕ, ◌+◌, ◌-◌, ◌*◌, ◌/◌, ◌%◌, ◌^◌, ◌≤◌, ◌<◌, Bool, true, false, cond, List, [], eqb}
+use Rattle.std.specs.Prelude.{ℕ, ◌+◌, ◌-◌, ◌*◌, ◌/◌, ◌%◌, ◌^◌, ◌≤◌, ◌<◌, Bool, false, cond, List, [], eqb}
 use Rattle.output.specs.ScanCodes.{arrow_right, arrow_left, arrow_up, arrow_down}
 use Rattle.output.specs.Packets.{Packet, bit, bytes}
 use Rattle.output.specs.Short.{short_of}

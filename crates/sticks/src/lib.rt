@@ -1,4 +1,6 @@
 // The joysticks: where both stand, the repeat counts of keycode mode, and what the two monitoring modes have gathered.
+#![tactic(auto)]
+
 mod axis;
 mod command;
 mod event;
@@ -11,21 +13,21 @@ ghost use Rattle.sticks.specs.Sticks.{below_trigger, at_power_up, quiet, told_of
 use output::Short;
 
 // Bits 0 to 3 of the position are up, down, left, right.
-#[derive(Drop)]
+#[derive(Clone, Copy)]
 pub struct Stick {
     pub position: u8,
     pub trigger: bool,
 }
 
 // How long an axis has had its direction, and how long it has been since its last arrow key, in ticks.
-#[derive(Drop)]
+#[derive(Clone, Copy)]
 pub struct Count {
     pub age: u16,
     pub wait: u16,
 }
 
 // `ticks` since the last monitoring report; `samples` of the fire button so far, as the low bits of `bits`, the last in bit 0.
-#[derive(Drop)]
+#[derive(Clone, Copy)]
 pub struct Sticks {
     pub zero: Stick,
     pub one: Stick,
@@ -37,14 +39,14 @@ pub struct Sticks {
 }
 
 // What something that happens to the sticks comes to: the bytes due, and the sticks afterwards.
-#[derive(Drop)]
+#[derive(Clone, Copy)]
 pub struct SticksTold {
     pub short: Short,
     pub sticks: Sticks,
 }
 
 // The same for one axis of stick 0 in keycode mode: the make code of the arrow key that is due, 0 for none, and the counts afterwards.
-#[derive(Drop)]
+#[derive(Clone, Copy)]
 pub(crate) struct AxisTold {
     arrow: u8,
     count: Count,

@@ -14,7 +14,7 @@ use borrow.Author.Tests.{lt-ltb, le-ltb, le-leb, lt-leb}
 use Rattle.output.specs.Writing.{over, Wrote}
 use Rattle.output.proofs.Writing.{over_more, stored_after}
 use Rattle.text.specs.Line.{tab, hex_digit, hex}
-use Rattle.text.specs.Output.{text, figure, decimal, hex_figure, hex_bytes, shown, output_line, line_room}
+use Rattle.text.specs.Output.{figure, decimal, hex_figure, hex_bytes, shown, output_line, line_room}
 use Rattle.text.proofs.Counting.{decimal_most}
 
 hex_append : (a b : List ℕ) → hex_bytes (a ++ b) ≡ hex_bytes a ++ hex_bytes b

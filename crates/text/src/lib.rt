@@ -1,4 +1,6 @@
 // The text program's lines: what a line of input means, and the line of output for an answer.
+#![tactic(auto)]
+
 ghost use Rattle.std.specs.Prelude.{◌≡◌, ◌≤◌, ◌<◌, ◌^◌, length, take};
 ghost use Rattle.output.specs.Writing.{Wrote};
 ghost use Rattle.text.specs.Line.{longest};
@@ -17,7 +19,7 @@ pub use numbers::hex_digit;
 
 // What is read at the front of a text: a good line, of `len` bytes and the line feed that ends it, or none. Whoever is told that there
 // is none looks for the line feed: the line is bad where there is one, and has not ended where there is none.
-#[derive(Drop)]
+#[derive(Clone, Copy)]
 pub enum Read {
     Whole { input: Input, len: usize },
     Unread,

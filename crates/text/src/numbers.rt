@@ -4,21 +4,21 @@ ghost use Rattle.text.specs.Line.{hex_digit, hex, minus};
 ghost use Rattle.text.specs.Fronts.{hex_read, digits_of, front_of};
 
 // The byte that two hexadecimal digits make.
-#[derive(Drop)]
+#[derive(Clone, Copy)]
 pub enum HexField {
     Hex(u8),
     NoHex,
 }
 
 // The digits that are the first field of a text: the number that they make, and the field's length.
-#[derive(Drop)]
+#[derive(Clone, Copy)]
 pub enum Digits {
     Natural { value: u16, len: usize },
     NoNatural,
 }
 
 // The number that is the first field of a text, and the field's length.
-#[derive(Drop)]
+#[derive(Clone, Copy)]
 pub enum Front {
     Number { value: i16, len: usize },
     NoNumber,

@@ -4,12 +4,18 @@
 // the report of absolute mode and `save` for the saved line. Two change the state: `clear` empties the latches; and after `load`, a tab
 // and bytes in hexadecimal the session goes on from the state that these bytes are the saved line of, or from power-up where they are the
 // line of none. For every line its number in the session, the answer and the bytes are printed, as the text program prints them.
+#![tactic(auto)]
+
 ghost use Rattle.std.specs.Prelude.{◌≡◌, ◌+◌, ◌≤◌, ◌<◌, ◌^◌, length};
 ghost use Rattle.controller.specs.State.{IsState, queue_room};
 ghost use Rattle.text.specs.Reading.{first_line};
 ghost use Rattle.text.specs.Output.{line_room};
 
 use controller::State;
+use std::io::{Read, Write};
+
+// How many bytes a block has.
+const BLOCK: usize = 65_536;
 
 // How many blocks are read at most: more than any input has, and few enough that a line's number has 64 bits.
 const MOST_BLOCKS: u64 = 140_737_488_355_328;
@@ -24,7 +30,7 @@ const MOST_KEPT: usize = MOST_LINE + 1;
 const LOAD: usize = 7;
 
 // A session between two lines: the state, the number of the next line, and how many bytes are lent with each input.
-#[derive(Drop)]
+#[derive(Clone, Copy)]
 pub struct Session {
     pub state: State,
     pub number: u64,
@@ -32,7 +38,7 @@ pub struct Session {
 }
 
 // What no input tells: the bytes that wait, how many keys are held, the report of absolute mode, or the saved line.
-#[derive(Drop)]
+#[derive(Clone, Copy)]
 pub enum Question {
     None,
     Queue,
@@ -362,7 +368,13 @@ fn print(session: Session, text: &[u8], n: usize, lent: &mut [u8], out: &mut [u8
 }
 
 // The lines that end in a block. A write that fails ends the program.
-fn answer(session: Session, block: &[u8], lent: &mut [u8], out: &mut [u8]) -> Answered
+fn answer<W: Write>(
+    output: &mut W,
+    session: Session,
+    block: &[u8],
+    lent: &mut [u8],
+    out: &mut [u8],
+) -> Answered
     requires state { IsState session.state }
     requires block_bound { session.number + length block.now < 2 ^ 64 }
     requires queue_room_in_bounds { (queue_room ≤ length lent.old) × (line_room (length lent.old) ≤ length out.old) }
@@ -383,7 +395,7 @@ fn answer(session: Session, block: &[u8], lent: &mut [u8], out: &mut [u8]) -> An
             };
         }
         let printed = print(now, &block[from..], end - from, lent, out);
-        if !io::write_all(1, &out[..printed.count]) {
+        if !write_all(output, &out[..printed.count]) {
             return Answered {
                 session: now,
                 used: from,
@@ -400,18 +412,30 @@ fn answer(session: Session, block: &[u8], lent: &mut [u8], out: &mut [u8]) -> An
     }
 }
 
-// More input, behind what was kept of the block: how many bytes the block has then.
-fn read_on(kept: usize, block: &mut [u8]) -> usize
+// More input, behind what was kept of the block: how many bytes the block has then. A read that fails ends the input.
+fn read_on<R: Read>(input: &mut R, kept: usize, block: &mut [u8]) -> usize
     requires { kept ≤ length block.old }
     ensures { (kept ≤ result) × (result ≤ length block.old) }
 {
-    let free = &mut block[kept..];
-    let got = libc::read(0, free);
-    kept + io::count(got, free)
+    match input.read(&mut block[kept..]) {
+        Ok(got) => kept + got,
+        Err(_) => kept,
+    }
+}
+
+// Whether all of these bytes were written.
+fn write_all<W: Write>(output: &mut W, bytes: &[u8]) -> bool {
+    output.write_all(bytes).is_ok()
 }
 
 // The lines of all sessions, block by block.
-fn run(block: &mut [u8], lent: &mut [u8], out: &mut [u8])
+fn run<R: Read, W: Write>(
+    input: &mut R,
+    output: &mut W,
+    block: &mut [u8],
+    lent: &mut [u8],
+    out: &mut [u8],
+)
     requires block_len { length block.old ≡ 65536 }
     requires queue_room_in_bounds { (queue_room ≤ length lent.old) × (line_room (length lent.old) ≤ length out.old) }
 {
@@ -419,13 +443,13 @@ fn run(block: &mut [u8], lent: &mut [u8], out: &mut [u8])
     let mut kept = 0;
     let mut blocks = MOST_BLOCKS;
     while blocks > 0 {
-        let n = read_on(kept, block);
+        let n = read_on(input, kept, block);
         if n == kept {
             let end = session::finish(block, kept);
-            answer(session, &block[..end], lent, out);
+            answer(output, session, &block[..end], lent, out);
             return;
         }
-        let done = answer(session, &block[..n], lent, out);
+        let done = answer(output, session, &block[..n], lent, out);
         if !done.written {
             return;
         }
@@ -435,9 +459,11 @@ fn run(block: &mut [u8], lent: &mut [u8], out: &mut [u8])
     }
 }
 
-fn main() {
-    let mut block = io::large_buffer();
+fn main(rt: HostRuntime) {
+    let mut input = rt.stdin();
+    let mut output = rt.stdout();
+    let mut block = [0; BLOCK];
     let mut lent = [0; State::MOST_DUE];
-    let mut out = io::large_buffer();
-    run(&mut block, &mut lent, &mut out);
+    let mut out = [0; BLOCK];
+    run(&mut input, &mut output, &mut block, &mut lent, &mut out);
 }

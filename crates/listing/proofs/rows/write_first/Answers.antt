@@ -1,0 +1,23 @@
+use native.Mathlib.Omega.{arith}
+use mathlib.Core.Path.{sym, ◌∙◌}
+use Rattle.listing.proofs.Turns.{takes, first_whole, first_none, first_few}
+use Rattle.listing.proofs.rows.write_first.Goals as goal
+
+pub write_packet-n-requires : goal.write_packet-n-requires
+write_packet-n-requires c =
+    let t = takes (sym c.first_packet.ensures ∙ c.in-Whole.is) in
+    (t.within, t.short, c.requires)
+
+pub write_row-n-requires : goal.write_row-n-requires
+write_row-n-requires c =
+    let t = takes (sym c.first_packet.ensures ∙ c.in-NoPacket.is) in
+    (t.within, omega (arith, c.requires))
+
+pub returns-in-Whole : goal.returns-in-Whole
+returns-in-Whole c = first_whole _ c.first_packet.ensures c.in-Whole.is c.write_packet-n.ensures
+
+pub returns-in-TooFew : goal.returns-in-TooFew
+returns-in-TooFew c = first_few _ _ c.first_packet.ensures c.in-TooFew.is
+
+pub returns-in-NoPacket : goal.returns-in-NoPacket
+returns-in-NoPacket c = first_none _ c.first_packet.ensures c.in-NoPacket.is c.write_row-n.ensures

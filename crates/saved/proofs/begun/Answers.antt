@@ -1,0 +1,12 @@
+use mathlib.Core.Path.{sym, ◌∙◌}
+use Rattle.saved.proofs.Deciding.{begun_minus, begun_line}
+use Rattle.saved.proofs.begun.Goals as goal
+
+pub returns-then-is_minus-clause-told : goal.returns-then-is_minus-clause-told
+returns-then-is_minus-clause-told c = (begun_minus c.args.line.now _ c.power_up.ensures (sym c.is_minus.ensures ∙ c.if-is_minus.true)).0
+
+pub returns-then-is_minus-clause-keeps : goal.returns-then-is_minus-clause-keeps
+returns-then-is_minus-clause-keeps c = (begun_minus c.args.line.now _ c.power_up.ensures (sym c.is_minus.ensures ∙ c.if-is_minus.true)).1
+
+pub returns-clause-told : goal.returns-clause-told
+returns-clause-told c = (begun_line c.args.line.now _ (sym c.is_minus.ensures ∙ c.if-is_minus.false) (c.read.ensures.told, c.read.ensures.keeps)).0
