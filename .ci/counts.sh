@@ -9,8 +9,8 @@ give_up() {
 }
 
 # Every tool that the gate uses is looked for before the proofs, which take minutes.
-for tool in rt cargo rustc awk basename bash cat chmod cmp cp cut diff env find flock grep head mkdir mktemp mv rm rmdir \
-    sha256sum sleep sort tail tee timeout touch tr wc xargs yes; do
+for tool in rt cargo rustc awk basename bash cat chmod cmp cp cut diff env find flock grep head mkdir mktemp mv nproc rm \
+    rmdir sha256sum sleep sort tail tee timeout touch tr wc xargs yes; do
     command -v "$tool" >/dev/null || give_up "$tool is needed and not installed"
 done
 
