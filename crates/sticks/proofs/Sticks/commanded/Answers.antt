@@ -1,6 +1,5 @@
 use Rattle.sticks.specs.Commands.{commanded}
 use Rattle.sticks.proofs.Arms.{clears}
-use borrow.Enum.Refused.{opened}
 use Rattle.sticks.proofs.Sticks.commanded.Goals as goal
 
 pub returns-in-ReportSticks : goal.returns-in-ReportSticks
@@ -12,4 +11,4 @@ unfolding commanded
 returns-in-SticksOff c = simp (c.in-SticksOff.is, ← c.monitoring_left.ensures) c.quiet.ensures
 
 pub returns-in_default : goal.returns-in_default
-returns-in_default c = simp (clears c.args.c (opened c.in_default.in_default-own.keys3), ← c.cleared.ensures) c.quiet-in_default.ensures
+returns-in_default c = simp (clears c.args.c c.in_default.not-ReportSticks c.in_default.not-SticksOff, ← c.cleared.ensures) c.quiet-in_default.ensures

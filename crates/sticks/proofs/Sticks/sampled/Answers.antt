@@ -1,6 +1,5 @@
 use Rattle.sticks.specs.Ticks.{sampled_in, sampled}
 use Rattle.sticks.proofs.Arms.{sample_quiet}
-use borrow.Enum.Refused.{opened}
 use Rattle.sticks.proofs.Sticks.sampled.Goals as goal
 
 pub returns-then-paused : goal.returns-then-paused
@@ -13,4 +12,4 @@ returns-in-Fire c = simp (c.if-paused.false, c.in-Fire.is) c.sample_taken.ensure
 
 pub returns-in_default : goal.returns-in_default
 unfolding sampled
-returns-in_default c = simp (c.if-paused.false, sample_quiet c.args.settings.stick (opened c.in_default.in_default-own.keys2)) c.quiet-in_default.ensures
+returns-in_default c = simp (c.if-paused.false, sample_quiet c.args.settings.stick c.in_default.not-Fire) c.quiet-in_default.ensures

@@ -1,7 +1,6 @@
 use Rattle.sticks.specs.Events.{stick_moved_in, stick_moved}
 use Rattle.sticks.proofs.Steering.{one_told, zero_told, unheard_told}
 use Rattle.sticks.proofs.Arms.{stored_only}
-use borrow.Enum.Refused.{opened}
 use Rattle.sticks.proofs.Sticks.stick_moved.Goals as goal
 
 pub returns-then-one : goal.returns-then-one
@@ -25,4 +24,4 @@ returns-else-on c =
 
 pub returns-in_default : goal.returns-in_default
 unfolding stick_moved
-returns-in_default c = simp (stored_only c.args.settings.stick (opened c.in_default.in_default-own.keys3), ← c.stored-next.ensures) c.quiet-in_default.ensures
+returns-in_default c = simp (stored_only c.args.settings.stick c.in_default.not-Event c.in_default.not-StickKeycode, ← c.stored-next.ensures) c.quiet-in_default.ensures

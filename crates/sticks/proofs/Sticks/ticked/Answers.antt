@@ -1,7 +1,6 @@
 use Rattle.sticks.specs.Events.{heard}
 use Rattle.sticks.specs.Ticks.{ticked_in, ticked}
 use Rattle.sticks.proofs.Arms.{tick_quiet}
-use borrow.Enum.Refused.{opened}
 use Rattle.sticks.proofs.Sticks.ticked.Goals as goal
 
 pub returns-then-paused : goal.returns-then-paused
@@ -22,4 +21,4 @@ returns-else-is_heard c = simp (c.if-paused.false, c.in-StickKeycode.is, ← c.i
 
 pub returns-in_default : goal.returns-in_default
 unfolding ticked
-returns-in_default c = simp (c.if-paused.false, tick_quiet c.args.settings.stick (opened c.in_default.in_default-own.keys3)) c.quiet-in_default.ensures
+returns-in_default c = simp (c.if-paused.false, tick_quiet c.args.settings.stick c.in_default.not-Monitoring c.in_default.not-StickKeycode) c.quiet-in_default.ensures
