@@ -1,2 +1,3 @@
+pub mod Months
 pub mod Laws
 pub mod Examples

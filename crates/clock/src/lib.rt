@@ -37,6 +37,7 @@ impl Clock {
     }
 
     // A hundredth of a second more.
+    #[tactic(auto, unfolding(crate::specs::Clock::tick, crate::specs::Clock::next_second, crate::specs::Clock::next_minute, crate::specs::Clock::next_hour))]
     pub fn tick(mut self) -> Self
         ensures { result ≡ tick self }
     {
@@ -124,6 +125,7 @@ impl Clock {
 
 // How many days a month has. But for February the odd months have 31 and the even ones 30, and from August on, where
 // `month / 8` is 1, the other way round. What is no month has 31, as the definition says.
+#[tactic(auto, using(crate::proofs::Months::by_rule, crate::proofs::Months::before_january, crate::proofs::Months::after_december), unfolding(crate::specs::Clock::month_length))]
 pub fn month_length(year: u8, month: u8) -> u8
     ensures { result ≡ month_length year month }
 {

@@ -112,6 +112,7 @@ fn started_by(first: u8) -> Start
 }
 
 // The first packet of received bytes. Only the first byte is looked at, and how many there are.
+#[tactic(auto, using(crate::proofs::Cutting::cut_empty, crate::proofs::Cutting::cut_few, crate::proofs::Cutting::cut_whole, crate::proofs::Cutting::cut_none))]
 pub fn first_packet(bytes: &[u8]) -> Cut
     ensures { result ≡ cut bytes.now }
 {
