@@ -128,10 +128,11 @@ timeout 60 ./ikbd resume "$room/minus" examples/key.txt >"$room/output" &&
     cmp <(head -n 2 "$room/output") <(printf "${header}0\t0\t-\n")
 count "./ikbd resume takes a file with only a - as power-up" $?
 
-# With a stand-in for rt, in a folder where nothing is proved yet. It is called as `rt run` in the program's folder.
+# With a stand-in for rt, in a folder where nothing is proved yet. It is called as `rt run` in the program's folder, and
+# for its version, which is nothing.
 stand_in() { # what it does
     mkdir -p "$room/stand-in"
-    printf '#!/bin/sh\n%s\n' "$1" >"$room/stand-in/rt"
+    printf '#!/bin/sh\n[ "$1" != version ] || exit 0\n%s\n' "$1" >"$room/stand-in/rt"
     chmod +x "$room/stand-in/rt"
 }
 nothing_proved() { # folder

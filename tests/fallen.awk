@@ -8,6 +8,7 @@ FNR == 1 {
     sub(/.*\//, "", file)
     sub(/\.antt$/, "", file)
     declared = ""
+    inner = 0
 }
 # The log.
 files == 1 {
@@ -44,13 +45,15 @@ files == 1 {
 }
 /^ *--/ || /^(pub )?mod / { next }
 # and what each declaration, from its first line to the next one's, mentions. A clause begins with its name too. Those of
-# a module with parameters stand two further in.
+# a module with parameters stand two further in than it.
 {
     sub(/ --.*/, "")
     line = $0
-    if (line ~ /^module /) { inner = 1; declared = ""; next }
-    if (line ~ /^[^ ]/) inner = 0
-    else if (inner) sub(/^  /, "", line)
+    if (line !~ /[^ ]/) next
+    match(line, /[^ ]/)
+    if (RSTART - 1 < inner) inner = RSTART - 1
+    line = substr(line, inner + 1)
+    if (line ~ /^module /) { inner += 2; declared = ""; next }
     if (line ~ /^[^ )}\]]/ && line !~ /^unfolding /) {
         while (sub(/^(pub|abbrev|unfoldable|data|record|open) /, "", line)) continue
         declared = line
