@@ -27,6 +27,7 @@ pub struct Fed {
 }
 
 // Where the line that begins at `from` ends: the place of its line feed, or the end of the text.
+#[tactic(auto, using(crate::proofs::Ended::ends_here))]
 pub fn line_end(text: &[u8], from: usize) -> usize
     requires { from ≤ length text.now }
     ensures { result ≡ from + length (until line_feed (drop from text.now)) }
@@ -146,6 +147,7 @@ pub fn keep(block: &mut [u8], from: usize, n: usize) -> usize
 }
 
 // The end of the input ends its last line, which may lack its line feed: it gets one.
+#[tactic(auto, using(crate::proofs::Finishing::finished_length, crate::proofs::Finishing::finished_over))]
 pub fn finish(block: &mut [u8], n: usize) -> usize
     requires { n < length block.old }
     ensures few { result ≤ n + 1 }

@@ -3,12 +3,12 @@
 use Prim.Native.Nat.{ℕ, ◌+◌, ◌-◌, ◌*◌, ◌/◌, ◌%◌, ◌≤◌, ◌<◌}
 use native.Mathlib.Nat.{div-div-eq-div-mul}
 use native.Mathlib.Omega.{arith}
-use mathlib.Core.Path.{◌≡◌, refl, ap, ◌∙◌}
+use mathlib.Core.Path.{◌≡◌, refl, sym, ap, ◌∙◌}
 use mathlib.Core.List.{List, [], ◌∷◌, ◌++◌, append_assoc}
-use lib.ListN.{length, set, length-append}
+use lib.ListN.{length, take, drop, set, length-append}
 use lib.Seq.{sets}
 use Rattle.output.specs.Writing.{over, Wrote}
-use Rattle.output.proofs.Writing.{over_more}
+use Rattle.output.proofs.Writing.{over_more, both}
 use Rattle.text.specs.Output.{figure, decimal, four_figures}
 use Rattle.text.proofs.Counting.{one_figure, decimal_ten}
 
@@ -87,5 +87,17 @@ four_more n r l X f g w = rw (four_is n f g) w
 pub block_length : (n : ℕ) → 10000 ≤ n → length (decimal n) ≡ length (decimal (n / 10000)) + 4
 block_length n h = ap length (block_is n (n % 10000) h refl) ∙ length-append (decimal (n / 10000)) (four_figures (n % 10000))
 
-pub block_wrote : (n r : ℕ) (l X : List ℕ) → 10000 ≤ n → Wrote (decimal (n / 10000) ++ four_figures (n - n / 10000 * 10000)) r l X → Wrote (decimal n) r l X
-block_wrote n r l X h w = rw (block_is n (n - n / 10000 * 10000) h (omega arith)) w
+-- the same, as two stages leave it in a buffer
+pub block_over : (n : ℕ) (l : List ℕ) → 10000 ≤ n →
+    let a = decimal (n / 10000) in
+    let b = four_figures (n - n / 10000 * 10000) in
+    let x = over a l in
+    over (decimal n) l ≡ take (length a) x ++ (over b (take (length x - length a) (drop (length a) x)) ++ drop (length x - length a) (drop (length a) x))
+block_over n l h =
+    let a = decimal (n / 10000) in
+    let b = four_figures (n - n / 10000 * 10000) in
+    let x = over a l in
+    let y = take (length x - length a) (drop (length a) x) in
+    let first : Wrote a (length a) l x = record { count = refl; buffer = refl } in
+    let second : Wrote b (length b) y (over b y) = record { count = refl; buffer = refl } in
+    ap (λ (d : List ℕ). over d l) (block_is n (n - n / 10000 * 10000) h (omega arith)) ∙ sym (both first second).buffer

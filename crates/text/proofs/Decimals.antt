@@ -54,6 +54,14 @@ module _ (stop : ℕ) (s : List ℕ) where
       at true false = refl
       at false q = refl
 
+  -- four bytes, and one more that does not end the field
+  pub long_field : length (until stop s) ≡ 4 + length (until stop (drop 4 s)) → 4 < length s → (get_or s 4 0 ≡ stop → ⊥) → NoNatural ≡ digits_of stop s
+  unfolding until natural
+  long_field c l n =
+      let e : until stop (drop 4 s) ≡ get_or s 4 0 ∷ until stop (drop 5 s) = ap (until stop) (drop-cons s 4 0 l) ∙ rw (ne_eqb (get_or s 4 0) stop n) refl in
+      let k : 4 < length (until stop s) = omega (arith, c, ap length e) in
+      no_digits (rw (le-leb 1 (length (until stop s)) (omega arith), lt-leb (length (until stop s)) 4 k) refl)
+
 module _ (stop : ℕ) (s : List ℕ) (v i : ℕ) (r : Reading stop s v i) where
   -- the text ends before the field does
   pub ended : length s ≤ i → NoNatural ≡ digits_of stop s
@@ -87,13 +95,6 @@ module _ (stop : ℕ) (s : List ℕ) (v i : ℕ) (r : Reading stop s v i) where
 
       pub high : code "9" < get_or s i 0 → NoNatural ≡ digits_of stop s
       high h = unread stop s (r.all ∙ ap digits goes_on ∙ rw (le-leb (code "0") (get_or s i 0) (omega arith), lt-leb (get_or s i 0) (code "9") h) refl)
-
-      -- four digits, and something more
-      pub fifth : i ≡ 4 → NoNatural ≡ digits_of stop s
-      unfolding natural
-      fifth e =
-          let k : 4 < length (until stop s) = (let p = r.counted in let q = ap length goes_on in omega arith) in
-          no_digits stop s (rw (le-leb 1 (length (until stop s)) (omega arith), lt-leb (length (until stop s)) 4 k) refl)
 
     pub turn_small : (i ≡ 4 → ⊥) → v < 1000
     turn_small n =

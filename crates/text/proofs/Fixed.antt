@@ -183,6 +183,10 @@ module _ (make : ℕ → Bool → Input) (s : List ℕ) where
   pub key_open : (4 < length s → get_or s 4 0 ≡ line_feed → ⊥) → Unread ≡ reads 2 s (key_line make (first_line s))
   key_open n = unended 4 (key_line make) (hex_level_length make) 2 s n
 
+  -- no line feed stands where such a line ends
+  pub key_unended : (get_or s 4 0 ≡ line_feed → ⊥) → Unread ≡ reads 2 s (key_line make (first_line s))
+  key_unended n = key_open (λ h e. n e)
+
   key_wrong : key_line make (four s) ≡ Bad → Unread ≡ reads 2 s (key_line make (first_line s))
   key_wrong e = wrong 4 (key_line make) (hex_level_length make) 2 s (λ h. ap (key_line make) (four_bytes s h) ∙ e)
 

@@ -80,6 +80,7 @@ fn write_long(n: u64, out: &mut [u8]) -> usize
 }
 
 // A number in decimal. Few sessions have a hundred million lines: shorter numbers are written four digits at once.
+#[tactic(auto, using(crate::proofs::Blocks::block_length, crate::proofs::Blocks::block_over))]
 pub fn write_decimal(n: u64, out: &mut [u8]) -> usize
     requires { length (decimal n) ≤ length out.old }
     ensures { Wrote (decimal n) result out.old out.new }

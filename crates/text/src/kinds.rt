@@ -27,6 +27,7 @@ pub(crate) fn byte_line(s: &[u8]) -> Read
     }
 }
 
+#[tactic(auto, using(crate::proofs::Fixed::key_unended))]
 pub(crate) fn key_line(s: &[u8]) -> Read
     ensures { result ≡ reads 2 s.now (two_more hex level Key (fields (first_line s.now))) }
 {

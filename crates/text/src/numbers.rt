@@ -25,6 +25,7 @@ pub enum Front {
 }
 
 // The value of an upper-case digit; 16 for any other byte.
+#[tactic(auto, unfolding(crate::specs::Line::hex_digit))]
 pub fn hex_digit(b: u8) -> u8
     ensures { result ≡ hex_digit b }
 {
@@ -59,6 +60,7 @@ pub(crate) fn hex_field(a: u8, b: u8) -> HexField
 
 // The digits up to `stop`, at which the field ends. The first byte is tested by itself, so that the loop need not ask whether there
 // was a digit.
+#[tactic(auto, using(crate::proofs::Decimals::long_field))]
 fn first_digits(s: &[u8], stop: u8) -> Digits
     requires { stop < minus }
     ensures { result ≡ digits_of stop s.now }

@@ -6,17 +6,14 @@ use Rattle.text.proofs.kinds.key_line.Goals as goal
 pub returns-then-s-lt5 : goal.returns-then-s-lt5
 returns-then-s-lt5 c = key_open Key _ (λ h e. omega arith)
 
-pub returns-then-s-ne10 : goal.returns-then-s-ne10
-returns-then-s-ne10 c = key_open Key _ (λ h e. c.if-s-ne10.true e)
-
 pub returns-then-s-ne9 : goal.returns-then-s-ne9
 returns-then-s-ne9 c = key_parted Key _ c.if-s-ne9.true
 
 pub returns-then-last-eq49 : goal.returns-then-last-eq49
-returns-then-last-eq49 c = key_down Key _ c.if-s-ne9.false _ (hex_some _ _ _ c.hex_field.ensures c.in-Hex.is) c.if-s-lt5.false c.if-s-ne10.false c.if-last-eq49.true
+returns-then-last-eq49 c = key_down Key _ c.if-s-ne9.false _ (hex_some _ _ _ c.hex_field.ensures c.in-Hex.is) c.if-s-lt5.false (omega arith) c.if-last-eq49.true
 
 pub returns-then-last-eq48 : goal.returns-then-last-eq48
-returns-then-last-eq48 c = key_up Key _ c.if-s-ne9.false _ (hex_some _ _ _ c.hex_field.ensures c.in-Hex.is) c.if-s-lt5.false c.if-s-ne10.false c.if-last-eq48.true
+returns-then-last-eq48 c = key_up Key _ c.if-s-ne9.false _ (hex_some _ _ _ c.hex_field.ensures c.in-Hex.is) c.if-s-lt5.false (omega arith) c.if-last-eq48.true
 
 pub returns-else-last-eq48 : goal.returns-else-last-eq48
 returns-else-last-eq48 c = key_neither Key _ c.if-s-ne9.false _ (hex_some _ _ _ c.hex_field.ensures c.in-Hex.is) c.if-last-eq49.false c.if-last-eq48.false

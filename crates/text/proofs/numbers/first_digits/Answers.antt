@@ -1,5 +1,5 @@
 use native.Mathlib.Omega.{arith}
-use Rattle.text.proofs.Decimals.{empty, first_low, first_high, started, stopped, low, high, fifth, turn, ended}
+use Rattle.text.proofs.Decimals.{empty, first_low, first_high, started, stopped, low, high, turn, ended}
 use Rattle.text.proofs.numbers.first_digits.Goals as goal
 
 pub returns-then-n-eq0 : goal.returns-then-n-eq0
@@ -23,11 +23,8 @@ returns-then-d-lt48-2 c = let l = c.loop-i in low _ _ _ _ l.invariant.0 (omega a
 pub returns-then-d-gt57-2 : goal.returns-then-d-gt57-2
 returns-then-d-gt57-2 c = let l = c.loop-i in high _ _ _ _ l.invariant.0 (omega arith) c.if-d-stop.false c.if-d-gt57-2.true
 
-pub returns-then-i-eq4 : goal.returns-then-i-eq4
-returns-then-i-eq4 c = let l = c.loop-i in fifth _ _ _ _ l.invariant.0 (omega arith) c.if-d-stop.false c.if-i-eq4.true
-
 pub loop-i-preserved : goal.loop-i-preserved
-loop-i-preserved c = let l = c.loop-i in (turn _ _ _ _ l.invariant.0 (omega arith) c.requires c.if-d-lt48-2.false c.if-d-gt57-2.false c.if-i-eq4.false, omega arith)
+loop-i-preserved c = let l = c.loop-i in (turn _ _ _ _ l.invariant.0 (omega arith) c.requires c.if-d-lt48-2.false c.if-d-gt57-2.false (λ e. omega arith), omega arith)
 
 pub returns : goal.returns
 returns c = ended _ _ _ _ c.loop-i.invariant.0 c.loop-i-test.false
