@@ -87,6 +87,9 @@ four_more n r l X f g w = rw (four_is n f g) w
 pub block_length : (n : ℕ) → 10000 ≤ n → length (decimal n) ≡ length (decimal (n / 10000)) + 4
 block_length n h = ap length (block_is n (n % 10000) h refl) ∙ length-append (decimal (n / 10000)) (four_figures (n % 10000))
 
+pub block_wrote : (n r : ℕ) (l X : List ℕ) → 10000 ≤ n → Wrote (decimal (n / 10000) ++ four_figures (n - n / 10000 * 10000)) r l X → Wrote (decimal n) r l X
+block_wrote n r l X h w = rw (block_is n (n - n / 10000 * 10000) h (omega arith)) w
+
 -- the same, as two stages leave it in a buffer
 pub block_over : (n : ℕ) (l : List ℕ) → 10000 ≤ n →
     let a = decimal (n / 10000) in

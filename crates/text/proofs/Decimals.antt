@@ -96,6 +96,13 @@ module _ (stop : ℕ) (s : List ℕ) (v i : ℕ) (r : Reading stop s v i) where
       pub high : code "9" < get_or s i 0 → NoNatural ≡ digits_of stop s
       high h = unread stop s (r.all ∙ ap digits goes_on ∙ rw (le-leb (code "0") (get_or s i 0) (omega arith), lt-leb (get_or s i 0) (code "9") h) refl)
 
+      -- four digits, and something more
+      pub fifth : i ≡ 4 → NoNatural ≡ digits_of stop s
+      unfolding natural
+      fifth e =
+          let k : 4 < length (until stop s) = (let p = r.counted in let q = ap length goes_on in omega arith) in
+          no_digits stop s (rw (le-leb 1 (length (until stop s)) (omega arith), lt-leb (length (until stop s)) 4 k) refl)
+
     pub turn_small : (i ≡ 4 → ⊥) → v < 1000
     turn_small n =
         let f = r.few in
