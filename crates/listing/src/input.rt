@@ -134,6 +134,7 @@ fn answer_bytes(rest: &[u8], out: &mut [u8]) -> LineRead
 }
 
 // The bytes that a line gives, to the start of `out`. A bad line writes nothing there.
+#[tactic(auto, using(crate::proofs::Lines::line_long, output::proofs::Writing::over_nil))]
 pub(crate) fn read_bytes(line: &[u8], out: &mut [u8]) -> LineRead
     requires { longest ≤ 2 * length out.old }
     ensures { ReadsBytes (line_of line.now) result out.old out.new }

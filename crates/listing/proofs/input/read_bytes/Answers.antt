@@ -2,11 +2,8 @@ use native.Mathlib.Omega.{arith}
 use mathlib.Core.Path.{sym, ap, ◌∙◌}
 use lib.Seq.{length-take-le}
 use Rattle.listing.specs.Input.{is_number, answer_bytes}
-use Rattle.listing.proofs.Lines.{read_none, read_bad, read_as, before_tab, behind_tab, has_no_tab, has_a_tab, tab_within, line_long, line_header, line_field, line_answer, line_bad}
+use Rattle.listing.proofs.Lines.{read_none, read_bad, read_as, before_tab, behind_tab, has_no_tab, has_a_tab, tab_within, line_header, line_field, line_answer, line_bad}
 use Rattle.listing.proofs.input.read_bytes.Goals as goal
-
-pub returns-then-line-gt-LONGEST : goal.returns-then-line-gt-LONGEST
-returns-then-line-gt-LONGEST c = read_bad (line_long _ c.if-line-gt-LONGEST.true)
 
 pub returns-then-equal : goal.returns-then-equal
 returns-then-equal c = read_none (line_header _ (omega arith) (sym c.equal.ensures ∙ c.if-equal.true))
