@@ -2,6 +2,10 @@
 # declarations in which its log names an error, and those that mention one that is refused. Such a one is not checked
 # (the log counts them, and names only the first three), so that nothing shows it. Fails where the log counts others.
 # usage: awk -v crate=CRATE -f tests/fallen.awk LOG crates/CRATE/proofs/*.antt, under LC_ALL=C
+function binds(one, text, count, names, i) {
+    count = split(text, names, /[^A-Za-z0-9_'\200-\377]+/)
+    for (i = 1; i <= count; i++) bound[one, names[i]]
+}
 FNR == 1 {
     files++
     file = FILENAME
@@ -60,15 +64,26 @@ files == 1 {
         sub(/[ :].*/, "", declared)
         place[file, declared] = file "." declared
         of[file "." declared] = file
+        line = substr(line, length(declared) + 1)
+        # What a clause takes has a name of its own,
+        if (line !~ /^ :/ && (i = index(line, " ="))) binds(file "." declared, substr(line, 1, i))
     }
     if (declared != "") said[file "." declared] = said[file "." declared] " " line
 }
 END {
     for (one in of) {
+        # and so has what `let` and `λ` name: these hide a lemma.
+        count = split(said[one], parts, / let /)
+        for (i = 2; i <= count; i++) binds(one, substr(parts[i], 1, index(parts[i], " ")))
+        count = split(said[one], parts, /λ/)
+        for (i = 2; i <= count; i++) binds(one, substr(parts[i], 1, match(parts[i], /[:.]/)))
+    }
+    for (one in of) {
         count = split(said[one], words, /[^A-Za-z0-9_'.\200-\377]+/)
         for (i = 1; i <= count; i++) {
-            parts = split(words[i], part, /\./)
-            if (parts > 1 && (of[one], part[1]) in module) name = module[of[one], part[1]] "." part[2]
+            many = split(words[i], part, /\./)
+            if ((one, part[1]) in bound) continue
+            if (many > 1 && (of[one], part[1]) in module) name = module[of[one], part[1]] "." part[2]
             else if ((of[one], part[1]) in place) name = place[of[one], part[1]]
             else continue
             if (name != one) mentions[one, name]
