@@ -1,6 +1,7 @@
 # What a check refused in the lemma files of a crate, crates/CRATE/proofs/FILE.antt, a line `FILE.NAME` for each: the
 # declarations in which its log names an error, and those that mention one that is refused. Such a one is not checked
-# (the log counts them, and names only the first three), so that nothing shows it. Fails where the log counts others.
+# (the log counts them, and names only the first three), so that nothing shows it. Fails where the log counts or names
+# others in a file.
 # usage: awk -v crate=CRATE -f tests/fallen.awk LOG crates/CRATE/proofs/*.antt, under LC_ALL=C
 function binds(one, text, count, names, i) {
     count = split(text, names, /[^A-Za-z0-9_'\200-\377]+/)
@@ -19,17 +20,24 @@ files == 1 {
     if ($0 !~ /^(\.\/)?proofs\/[A-Za-z0-9_]+\.antt:[0-9]+:[0-9]+: error: /) next
     where = $0
     sub(/^(\.\/)?proofs\//, "", where)
-    if (where ~ /: error: [0-9]+ declarations? that depends? on /) {
-        sub(/.*: error: /, "", where)
-        counted += where
-        next
-    }
-    if (where !~ /: error: `/) next
     name = where
     sub(/\.antt:.*/, "", where)
+    if (name ~ /: error: [0-9]+ declarations? that depends? on /) {
+        sub(/.*: error: /, "", name)
+        counted[where] += name
+        sub(/.* not checked: /, "", name)
+        sub(/ and [0-9]+ more$/, "", name)
+        count = split(name, names, /, /)
+        for (i = 1; i <= count; i++) {
+            sub(/ .*/, "", names[i])
+            named[where "." names[i]]
+        }
+        next
+    }
+    if (name !~ /: error: `/) next
     sub(/^[^`]*`/, "", name)
     sub(/`.*/, "", name)
-    if (!((where "." name) in refused)) counted++
+    if (!((where "." name) in refused)) counted[where]++
     refused[where "." name]
     next
 }
@@ -97,8 +105,12 @@ END {
         }
     } while (more)
     for (name in refused) {
-        counted--
+        where = name
+        sub(/\..*/, "", where)
+        counted[where]--
         print name
     }
-    exit counted != 0
+    for (where in counted) if (counted[where] != 0) differ = 1
+    for (name in named) if (!(name in refused)) differ = 1
+    exit differ
 }
