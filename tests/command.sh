@@ -156,11 +156,11 @@ PATH=$room/stand-in:$PATH "$room/anew/ikbd" examples/document.txt 2>"$room/said"
 count "./ikbd says at first how long it takes, and names each crate when it is proved" $?
 stand_in "$(proves saved proved; builds resume)"
 PATH=$room/stand-in:$PATH "$room/anew/ikbd" save examples/saved-first.txt 2>"$room/said" | cmp - examples/saved.line &&
-    [[ $(head -n 1 "$room/said") == *"5 minutes"* ]] && grep -q "saved is proved" "$room/said"
+    [[ $(head -n 1 "$room/said") == *"6 minutes"* ]] && grep -q "saved is proved" "$room/said"
 count "./ikbd save says at first how long it takes, and names each crate when it is proved" $?
 stand_in "$(proves listing proved; builds packets)"
 PATH=$room/stand-in:$PATH "$room/anew/ikbd" packets examples/packets.out 2>"$room/said" | cmp - examples/packets.list &&
-    [[ $(head -n 1 "$room/said") == *"4 minutes"* ]] && grep -q "listing is proved" "$room/said"
+    [[ $(head -n 1 "$room/said") == *"5 minutes"* ]] && grep -q "listing is proved" "$room/said"
 count "./ikbd packets says at first how long it takes, and names each crate when it is proved" $?
 # A program is proved again where a file that it is made of has changed, or the program itself, and else it is not.
 stand_in 'exit 1'
