@@ -1,7 +1,7 @@
 // The time-of-day clock: year 0 to 99, and down to hundredths of a second. Its fields are plain numbers, not BCD.
 #![tactic(auto)]
 
-ghost use Rattle.std.specs.Prelude.{◌≡◌, ◌≤◌, min};
+ghost use Rattle.std.specs.Prelude.{◌≡◌, ◌≤◌};
 ghost use Rattle.output.specs.Packets.{bytes_of};
 ghost use Rattle.output.specs.Short.{short_of};
 ghost use Rattle.clock.specs.Clock.{first_day, month_length, next_day, tick};
@@ -9,7 +9,7 @@ ghost use Rattle.clock.specs.Setting.{TwoDigits, to_bcd, field, set_to, report};
 
 use output::Short;
 
-#[derive(Clone, Copy)]
+#[derive(Clone, Copy, Debug, PartialEq, Eq)]
 pub struct Clock {
     pub year: u8,
     pub month: u8,
@@ -65,6 +65,7 @@ impl Clock {
     }
 
     // The next day, at the same time; the year 99 is followed by 0.
+    #[tactic(auto, unfolding(crate::specs::Clock::next_day, crate::specs::Clock::next_month, crate::specs::Clock::next_year))]
     fn next_day(mut self) -> Self
         ensures { result ≡ next_day self }
     {
@@ -78,23 +79,20 @@ impl Clock {
             return self;
         }
         self.month = 1;
-        if self.year < 99 {
-            self.year += 1;
-            return self;
-        }
-        self.year = 0;
+        self.year = if self.year < 99 { self.year + 1 } else { 0 };
         self
     }
 
     // 0x1B with its six bytes. A field whose byte is no number in its range is left, and so the day may lie past the
     // end of the month that was set: it becomes the last.
+    #[tactic(auto, unfolding(crate::specs::Setting::set_to))]
     pub fn set_to(mut self, params: [u8; 6]) -> Self
         ensures { result ≡ set_to params self }
     {
         self.year = field(0, 99, self.year, params[0]);
         self.month = field(1, 12, self.month, params[1]);
         let day = field(1, 31, self.day, params[2]);
-        self.day = smaller(day, month_length(self.year, self.month));
+        self.day = day.min(month_length(self.year, self.month));
         self.hour = field(0, 23, self.hour, params[3]);
         self.minute = field(0, 59, self.minute, params[4]);
         self.second = field(0, 59, self.second, params[5]);
@@ -103,23 +101,20 @@ impl Clock {
     }
 
     // What 0x1C sends.
+    #[tactic(auto, unfolding(crate::specs::Setting::report))]
     pub fn report(self) -> Short
         requires { TwoDigits self }
         ensures { result ≡ short_of (bytes_of (report self)) }
     {
-        Short {
-            bytes: [
-                0xFC,
-                to_bcd(self.year),
-                to_bcd(self.month),
-                to_bcd(self.day),
-                to_bcd(self.hour),
-                to_bcd(self.minute),
-                to_bcd(self.second),
-                0,
-            ],
-            len: 7,
-        }
+        Short::of([
+            0xFC,
+            to_bcd(self.year),
+            to_bcd(self.month),
+            to_bcd(self.day),
+            to_bcd(self.hour),
+            to_bcd(self.minute),
+            to_bcd(self.second),
+        ])
     }
 }
 
@@ -130,43 +125,25 @@ pub fn month_length(year: u8, month: u8) -> u8
     ensures { result ≡ month_length year month }
 {
     match month {
-        2 => {
-            if year % 4 == 0 {
-                return 29;
-            }
-            28
-        }
+        2 => if year % 4 == 0 { 29 } else { 28 },
         1..=12 => 30 + (month + month / 8) % 2,
         _ => 31,
     }
 }
 
 // A field of the clock after its byte of 0x1B.
+#[tactic(auto, unfolding(crate::specs::Setting::field))]
 fn field(least: u8, most: u8, old: u8, b: u8) -> u8
     ensures { result ≡ field least most old b }
 {
     let tens = b / 16;
     let ones = b % 16;
-    if 9 < tens {
-        return old;
-    }
-    if 9 < ones {
-        return old;
-    }
     let n = 10 * tens + ones;
-    if n < least {
-        return old;
+    if tens <= 9 && ones <= 9 && (least..=most).contains(&n) {
+        n
+    } else {
+        old
     }
-    if most < n {
-        return old;
-    }
-    n
-}
-
-fn smaller(a: u8, b: u8) -> u8
-    ensures { result ≡ min a b }
-{
-    if a < b { a } else { b }
 }
 
 fn to_bcd(n: u8) -> u8

@@ -30,8 +30,9 @@ use Rattle.keys.proofs.Framed.{breaks_framed}
 use Rattle.controller.specs.declared.State.{State}
 use Rattle.controller.specs.declared.Input.{Input}
 use Rattle.controller.specs.declared.Input.TheVariants.{Byte, Key, Button, Move, Joystick, Sample, Tick}
-use Rattle.controller.specs.declared.Answer.{Answer}
-use Rattle.controller.specs.declared.Answer.TheVariants.{Taken, OutOfRange, QueueFull, MotionFull, BufferShort}
+use Rattle.controller.specs.declared.Refusal.{Refusal}
+use Rattle.std.specs.Prelude.{Result, Ok, Err}
+use Rattle.controller.specs.declared.Refusal.TheVariants.{OutOfRange, QueueFull, MotionFull, BufferShort}
 use Rattle.controller.specs.Host.{Due, Effect, silent, mouse_effect, stick_effect, other_effect, effect, resumed_packets, resumed_mouse, acted, reset_due, executes, host_due, reading, command_executed}
 use Rattle.controller.specs.Events.{happened, key_packets, button, event, event_due}
 use Rattle.controller.specs.Step.{due, in_range, verdict, told, step}
@@ -108,18 +109,18 @@ due_framed s (Joystick which place trigger) h r = sticks.stick_moved_framed s.se
 due_framed s (Sample b) h r = sticks.sampled_framed s.settings h s.paused (nat_abs b) s.sticks
 due_framed s Tick h r = sticks.ticked_framed s.settings h s.paused s.sticks
 
-told_framed : (a : Answer) (s : State) (d : Due) → (a ≡ Taken → AllFramed d.packets) → AllFramed (told a s d).packets
+told_framed : (a : Result ℕ Refusal) (s : State) (d : Due) → ((n : ℕ) → a ≡ Ok n → AllFramed d.packets) → AllFramed (told a s d).packets
 unfolding told
-told_framed Taken s d f = f refl
-told_framed OutOfRange s d f = tt
-told_framed QueueFull s d f = tt
-told_framed MotionFull s d f = tt
-told_framed BufferShort s d f = tt
+told_framed (Ok count) s d f = f count refl
+told_framed (Err OutOfRange) s d f = tt
+told_framed (Err QueueFull) s d f = tt
+told_framed (Err MotionFull) s d f = tt
+told_framed (Err BufferShort) s d f = tt
 
 -- any step
 pub step_framed : (s : State) (i : Input) (lent : ℕ) → Outside s.settings → AllFramed (step s i lent).packets
 unfolding step
-step_framed s i lent h = told_framed (verdict s i lent) s (due s i) (λ e. due_framed s i h (taken_range s i lent e))
+step_framed s i lent h = told_framed (verdict s i lent) s (due s i) (λ n e. due_framed s i h (taken_range s i lent e))
 
 -- ---- the mode
 
@@ -154,14 +155,14 @@ due_outside s (Joystick which place trigger) n h = h
 due_outside s (Sample b) n h = h
 due_outside s Tick n h = h
 
-told_outside : (a : Answer) (s : State) (d : Due) → Outside s.settings → ((told a s d).answer ≡ 0 → Outside d.state.settings) →
+told_outside : (a : Result ℕ Refusal) (s : State) (d : Due) → Outside s.settings → ((told a s d).answer ≡ 0 → Outside d.state.settings) →
     Outside (told a s d).state.settings
 unfolding told
-told_outside Taken s d h f = f refl
-told_outside OutOfRange s d h f = h
-told_outside QueueFull s d h f = h
-told_outside MotionFull s d h f = h
-told_outside BufferShort s d h f = h
+told_outside (Ok count) s d h f = f refl
+told_outside (Err OutOfRange) s d h f = h
+told_outside (Err QueueFull) s d h f = h
+told_outside (Err MotionFull) s d h f = h
+told_outside (Err BufferShort) s d h f = h
 
 -- any step that does not execute one of the two
 pub step_outside : (s : State) (i : Input) (lent : ℕ) → ((step s i lent).answer ≡ 0 → NoMonitoring (executed_by s i)) → Outside s.settings →

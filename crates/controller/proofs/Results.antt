@@ -23,7 +23,7 @@ use Rattle.mouse.specs.Sending.{packets_sent}
 use Rattle.mouse.specs.Moves.{resumed}
 use Rattle.mouse.specs.Handing.{moved_of}
 use Rattle.mouse.proofs.Dues.{sent_due, resumed_others}
-use Rattle.controller.specs.declared.Queue.{Queue}
+use Rattle.output.specs.declared.Run.{Run}
 use Rattle.controller.specs.declared.State.{State}
 use Rattle.controller.specs.declared.Input.{Input}
 use Rattle.controller.specs.declared.Acted.{Acted}
@@ -47,8 +47,8 @@ over_zeros bs n h = ap (λ (l : List ℕ). bs ++ l) (drop_zeros (length bs) n h)
         ∙ drop_at (replicate k 0) (replicate (n - k) 0) k (length-replicate k 0)
 
 -- a queue with more bytes written behind those that wait
-pub queue_grown : (p : Bool) (q : Queue) (bs : List ℕ) → IsQueue p q → OneQueue q → q.len + length bs ≤ queue_room →
-    ◌≡◌ {A = Queue} (record { bytes = take q.len q.bytes ++ over bs (drop q.len q.bytes); len = q.len + length bs }) (queue_of (contents q ++ bs))
+pub queue_grown : {n : ℕ} (p : Bool) (q : Run n) (bs : List ℕ) → IsQueue p q → OneQueue q → q.len + length bs ≤ queue_room →
+    ◌≡◌ {A = Run n} (record { bytes = take q.len q.bytes ++ over bs (drop q.len q.bytes); len = q.len + length bs }) (queue_of (contents q ++ bs))
 unfolding queue_of
 queue_grown p q bs h one fits = λ i. record { bytes = content i; len = size i }
   where
@@ -103,7 +103,7 @@ module _ (m : Meaning) (ps : List ℕ) (s : State) (v : Moved) (a : Acted) (mv :
       ∙ sym (bytes_append (resumed_packets s) (effect m ps s.settings (resumed_mouse s) s.sticks s.clock).packets))
 
   -- and the state that it leaves
-  pub acted_state : (σ : Settings) (c : Command) (q : Queue) → σ ≡ sets m ps s.settings → c ≡ no_command → q ≡ empty_queue →
+  pub acted_state : (σ : Settings) (c : Command) (q : _) → σ ≡ sets m ps s.settings → c ≡ no_command → q ≡ empty_queue →
       ◌≡◌ {A = State} (record {
         settings = σ;
         command = c;

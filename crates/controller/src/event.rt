@@ -1,88 +1,68 @@
 // Events: their ranges, and what each comes to. Nothing here holds the queue.
-ghost use Rattle.std.specs.Prelude.{◌≡◌, true, ◌≤◌, eqb, nat_abs};
+ghost use Rattle.std.specs.Prelude.{◌≡◌, true, ◌≤◌, eqb, nat_abs, cond, Some, None};
 ghost use Rattle.output.specs.ScanCodes.{last_key};
 ghost use Rattle.output.specs.Packets.{bytes};
 ghost use Rattle.output.specs.Short.{short_of};
-ghost use Rattle.sticks.specs.Sticks.{IsSticks, OneSticks, told_of};
+ghost use Rattle.sticks.specs.Sticks.{IsSticks, OneSticks, told_of, is_one};
 ghost use Rattle.sticks.specs.Events.{stick_moved};
 ghost use Rattle.sticks.specs.Ticks.{sampled};
-ghost use Rattle.controller.specs.Events.{key_packets, stick_of, fired};
+ghost use Rattle.controller.specs.Events.{key_packets, stick_of, which_of, fired};
 ghost use Rattle.controller.specs.Step.{in_range, up_to};
 
 use crate::Input;
 use motion::Motion;
 use output::{ScanCode, Short};
 use protocol::Settings;
-use sticks::{Stick, Sticks, SticksTold};
+use sticks::{Stick, Sticks, SticksTold, Which};
 
 // The most motion that one event brings along an axis.
 const MOST_MOVE: u16 = 64;
 
-const MOST_POSITION: u16 = 15;
+const MOST_POSITION: u8 = 15;
 
-// A signed number without its sign.
-fn number(z: i16) -> u16
-    ensures { result ≡ nat_abs z }
+// A number from 0 to `most`.
+fn up_to(most: u8, z: i16) -> Option<u8>
+    ensures { result ≡ cond (up_to most z) (Some (nat_abs z)) None }
 {
-    let m = Motion::of_signed(z);
-    m.plus + m.minus
+    u8::try_from(z).ok().filter(|&n| n <= most)
 }
 
-// Whether a signed number is from 0 to `most`.
-fn up_to(most: u16, z: i16) -> bool
-    ensures { result ≡ up_to most z }
+// A stick event's three numbers, where they are in range.
+#[tactic(auto, unfolding(crate::specs::Step::in_range))]
+pub(crate) fn stick_read(stick: i16, position: i16, trigger: i16) -> Option<(Which, Stick)>
+    ensures { result ≡ cond (in_range (Input.Joystick stick position trigger)) (Some (which_of stick, stick_of position trigger)) None }
 {
-    let m = Motion::of_signed(z);
-    if m.minus == 0 {
-        return m.plus <= most;
-    }
-    false
+    let stick = up_to(1, stick)?;
+    let position = up_to(MOST_POSITION, position)?;
+    let trigger = up_to(1, trigger)?;
+    let which = if stick == 1 { Which::One } else { Which::Zero };
+    let new = Stick {
+        position,
+        trigger: trigger == 1,
+    };
+    Some((which, new))
 }
 
-pub(crate) fn stick_in_range(stick: i16, position: i16, trigger: i16) -> bool
-    ensures { result ≡ in_range (Input.Joystick stick position trigger) }
-{
-    if up_to(1, stick) {
-        if up_to(MOST_POSITION, position) {
-            return up_to(1, trigger);
-        }
-        return false;
-    }
-    false
-}
-
-pub(crate) fn key_in_range(code: u8) -> bool
-    ensures { result ≡ in_range (Input.Key code true) }
-{
-    if code < ScanCode::FIRST_KEY {
-        return false;
-    }
-    code <= ScanCode::LAST_KEY
-}
-
-pub(crate) fn move_in_range(dx: i16, dy: i16) -> bool
-    ensures { result ≡ in_range (Input.Move dx dy) }
-{
-    if number(dx) <= MOST_MOVE {
-        return number(dy) <= MOST_MOVE;
-    }
-    false
-}
-
-pub(crate) fn sample_in_range(b: i16) -> bool
-    ensures { result ≡ in_range (Input.Sample b) }
+// A sample, where it is in range.
+#[tactic(auto, unfolding(crate::specs::Step::in_range))]
+pub(crate) fn sample_read(b: i16) -> Option<u8>
+    ensures { result ≡ cond (in_range (Input.Sample b)) (Some (nat_abs b)) None }
 {
     up_to(1, b)
 }
 
-// A sample's number, which is in range.
-pub(crate) fn sample_told(paused: bool, settings: Settings, sticks: Sticks, b: i16) -> SticksTold
-    requires b_value { in_range (Input.Sample b) ≡ true }
-    requires sticks { IsSticks settings.stick sticks }
-    requires one_sticks { OneSticks sticks }
-    ensures { result ≡ told_of (sampled paused settings (nat_abs b) sticks) }
+#[tactic(auto, unfolding(crate::specs::Step::in_range))]
+pub(crate) fn key_in_range(code: u8) -> bool
+    ensures { result ≡ in_range (Input.Key code true) }
 {
-    sticks.sampled(paused, settings, number(b) as u8)
+    (ScanCode::FIRST_KEY..=ScanCode::LAST_KEY).contains(&code)
+}
+
+#[tactic(auto, unfolding(crate::specs::Step::in_range))]
+pub(crate) fn move_in_range(dx: i16, dy: i16) -> bool
+    ensures { result ≡ in_range (Input.Move dx dy) }
+{
+    dx.unsigned_abs() <= MOST_MOVE && dy.unsigned_abs() <= MOST_MOVE
 }
 
 // A key sends its scan code, but in the monitoring modes.
@@ -90,31 +70,10 @@ pub(crate) fn key_bytes(settings: Settings, code: u8, down: bool) -> Short
     requires { code ≤ last_key }
     ensures { result ≡ short_of (bytes (key_packets settings code down)) }
 {
-    let mode = settings.stick;
-    if protocol::is_monitoring(mode) {
-        return Short::none();
+    if settings.stick.is_monitoring() {
+        return Short::of([]);
     }
-    Short::one(output::code_sent(code, down))
-}
-
-// A stick event's three numbers, which are in range.
-pub(crate) fn stick_told(
-    settings: Settings,
-    sticks: Sticks,
-    stick: i16,
-    position: i16,
-    trigger: i16,
-) -> SticksTold
-    requires trigger_value { in_range (Input.Joystick stick position trigger) ≡ true }
-    requires sticks { IsSticks settings.stick sticks }
-    ensures { result ≡ told_of (stick_moved settings (eqb (nat_abs stick) 1) (stick_of position trigger) sticks) }
-{
-    let one = number(stick) == 1;
-    let new = Stick {
-        position: number(position) as u8,
-        trigger: number(trigger) == 1,
-    };
-    sticks.stick_moved(settings, one, new)
+    Short::of([output::code_sent(code, down)])
 }
 
 // The right button as the trigger of stick 1, which stays where it stands.
@@ -123,8 +82,8 @@ pub(crate) fn fire_told(settings: Settings, sticks: Sticks, down: bool) -> Stick
     ensures { result ≡ told_of (fired settings down sticks) }
 {
     let new = Stick {
-        position: sticks.one.position,
         trigger: down,
+        ..sticks.one
     };
-    sticks.stick_moved(settings, true, new)
+    sticks.stick_moved(settings, Which::One, new)
 }

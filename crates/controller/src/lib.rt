@@ -2,6 +2,7 @@
 
 mod apply;
 mod command;
+mod due;
 mod event;
 mod look;
 mod send;
@@ -16,20 +17,19 @@ ghost use Rattle.controller.specs.Applying.{core_of, joined};
 
 use clock::Clock;
 use keys::Keys;
-pub use look::{Look, Looked};
+pub use look::{LookRefusal, look_number};
 use mouse::{Mouse, Side};
-use output::Short;
+use output::{Run, Short};
 use protocol::{Command, Settings};
 use sticks::Sticks;
 
-// Bytes kept back while output is paused: the first `len` of `bytes`; the others are 0.
-#[derive(Clone, Copy)]
-pub struct Queue {
-    pub bytes: [u8; Queue::ROOM],
-    pub len: usize,
-}
+// How many bytes the queue takes.
+const QUEUE_ROOM: usize = 128;
 
-#[derive(Clone, Copy)]
+// Bytes kept back while output is paused; those past them are 0.
+pub type Queue = Run<QUEUE_ROOM>;
+
+#[derive(Clone, Copy, Debug, PartialEq, Eq)]
 pub struct State {
     pub settings: Settings,
     pub command: Command,
@@ -42,7 +42,7 @@ pub struct State {
 }
 
 // A host byte, or an event. Every value has an answer: a number outside its range is answered, not shut out.
-#[derive(Clone, Copy)]
+#[derive(Clone, Copy, Debug, PartialEq, Eq)]
 pub enum Input {
     Byte(u8),
     Key {
@@ -66,25 +66,24 @@ pub enum Input {
     Tick,
 }
 
-#[derive(Clone, Copy)]
-pub enum Answer {
-    Taken,
+// Why an input is refused: nothing is written, and the state stays.
+#[derive(Clone, Copy, Debug, PartialEq, Eq)]
+pub enum Refusal {
     OutOfRange,
     QueueFull,
     MotionFull,
     BufferShort,
 }
 
-// What a step hands back: `count` bytes stand at the start of the lent buffer.
-#[derive(Clone, Copy)]
+// What a step hands back. Of an input that was taken the answer counts the bytes that stand at the start of the lent buffer.
+#[derive(Clone, Copy, Debug, PartialEq, Eq)]
 pub struct Stepped {
-    pub answer: Answer,
-    pub count: usize,
+    pub answer: Result<usize, Refusal>,
     pub state: State,
 }
 
 // The limits of the protocol, as one value.
-#[derive(Clone, Copy)]
+#[derive(Clone, Copy, Debug, PartialEq, Eq)]
 pub struct Limits {
     pub queue: usize,
     pub held: u16,
@@ -93,7 +92,7 @@ pub struct Limits {
 
 // The state without its queue, whose bytes are lent beside it: nothing that is handed on grows with the queue's room. The order of the
 // fields is one of those that cost the session's loop the fewest instructions (docs/DECISIONS.md has what was measured).
-#[derive(Clone, Copy)]
+#[derive(Clone, Copy, Debug, PartialEq, Eq)]
 pub struct Core {
     pub settings: Settings,
     pub keys: Keys,
@@ -104,26 +103,16 @@ pub struct Core {
     pub sticks: Sticks,
 }
 
-// What an input came to: `count` bytes stand at the start of the lent buffer, and `waiting` bytes at the start of the lent queue.
-#[derive(Clone, Copy)]
+// What an input came to: the answer of the step, and how many bytes wait at the start of the lent queue.
+#[derive(Clone, Copy, Debug, PartialEq, Eq)]
 pub struct Applied {
-    pub answer: Answer,
-    pub count: usize,
+    pub answer: Result<usize, Refusal>,
     pub waiting: usize,
     pub core: Core,
 }
 
-// What became of bytes that fell due: whether they were taken, and the answer, count and `waiting` of the input then.
-#[derive(Clone, Copy)]
-pub(crate) struct Sent {
-    taken: bool,
-    answer: Answer,
-    count: usize,
-    waiting: usize,
-}
-
 // What an executed command does besides the settings: its own packet, and the parts afterwards.
-#[derive(Clone, Copy)]
+#[derive(Clone, Copy, Debug, PartialEq, Eq)]
 pub struct Acted {
     pub short: Short,
     pub mouse: Mouse,
@@ -131,24 +120,18 @@ pub struct Acted {
     pub clock: Clock,
 }
 
-impl Answer {
-    // The number that document 01 gives the answer.
-    pub fn number(self) -> u8
-        ensures { result ≡ number self }
-    {
-        match self {
-            Answer::Taken => 0,
-            Answer::OutOfRange => 1,
-            Answer::QueueFull => 2,
-            Answer::MotionFull => 3,
-            Answer::BufferShort => 4,
-        }
+// The number that the protocol gives an answer. Each kind of answer has a function of its own, since each has a definition of its own with
+// a line for each case.
+pub fn number(answer: Result<usize, Refusal>) -> u8
+    ensures { result ≡ number answer }
+{
+    match answer {
+        Ok(_) => 0,
+        Err(Refusal::OutOfRange) => 1,
+        Err(Refusal::QueueFull) => 2,
+        Err(Refusal::MotionFull) => 3,
+        Err(Refusal::BufferShort) => 4,
     }
-}
-
-impl Queue {
-    // How many bytes the queue takes.
-    pub const ROOM: usize = 128;
 }
 
 impl Core {
@@ -162,22 +145,24 @@ impl Core {
             paused: false,
             mouse: Mouse::power_up(),
             sticks: Sticks::power_up(),
-            clock: clock,
-            keys: keys,
+            clock,
+            keys,
         }
     }
 
     // The whole state again, with the first `waiting` bytes of a queue waiting.
-    pub fn with_queue(self, bytes: [u8; Queue::ROOM], waiting: usize) -> State
+    pub fn with_queue(self, bytes: [u8; QUEUE_ROOM], waiting: usize) -> State
         ensures { result ≡ joined self bytes waiting }
     {
-        let settings = self.settings;
-        let command = self.command;
-        let paused = self.paused;
-        let mouse = self.mouse;
-        let sticks = self.sticks;
-        let clock = self.clock;
-        let keys = self.keys;
+        let Core {
+            settings,
+            keys,
+            clock,
+            mouse,
+            paused,
+            command,
+            sticks,
+        } = self;
         let queue = Queue {
             bytes,
             len: waiting,
@@ -196,11 +181,11 @@ impl Core {
 }
 
 impl State {
-    pub const QUEUE_ROOM: usize = Queue::ROOM;
+    pub const QUEUE_ROOM: usize = QUEUE_ROOM;
 
     pub const HELD_LIMIT: u16 = Mouse::HELD_LIMIT;
     // The most bytes due at once: a full queue, four for each step of the held motion of both axes, and a reply.
-    pub const MOST_DUE: usize = Queue::ROOM + 4 * (Mouse::HELD_LIMIT as usize) + 8;
+    pub const MOST_DUE: usize = QUEUE_ROOM + 4 * (Mouse::HELD_LIMIT as usize) + 8;
 
     pub fn limits() -> Limits
         ensures { result ≡ limits }
@@ -215,27 +200,21 @@ impl State {
     pub fn power_up() -> Self
         ensures { result ≡ power_up }
     {
-        Core::reset_but(Clock::power_up(), Keys::none()).with_queue([0; Queue::ROOM], 0)
+        Core::reset_but(Clock::power_up(), Keys::none()).with_queue([0; QUEUE_ROOM], 0)
     }
 
     // The state without its queue.
     pub fn core(self) -> Core
         ensures { result ≡ core_of self }
     {
-        let settings = self.settings;
-        let command = self.command;
-        let mouse = self.mouse;
-        let sticks = self.sticks;
-        let clock = self.clock;
-        let keys = self.keys;
         Core {
-            settings,
-            command,
+            settings: self.settings,
+            command: self.command,
             paused: self.paused,
-            mouse,
-            sticks,
-            clock,
-            keys,
+            mouse: self.mouse,
+            sticks: self.sticks,
+            clock: self.clock,
+            keys: self.keys,
         }
     }
 
@@ -244,7 +223,6 @@ impl State {
         requires { IsState self }
         ensures { result ≡ held self.keys }
     {
-        let keys = self.keys;
-        keys.count()
+        self.keys.count()
     }
 }

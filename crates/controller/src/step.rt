@@ -14,12 +14,9 @@ impl State {
         let waiting = self.queue.len;
         let mut queue = self.queue.bytes;
         let done = self.core().apply(input, waiting, &mut queue, out);
-        let answer = done.answer;
-        let core = done.core;
         Stepped {
-            answer: answer,
-            count: done.count,
-            state: core.with_queue(queue, done.waiting),
+            answer: done.answer,
+            state: done.core.with_queue(queue, done.waiting),
         }
     }
 }

@@ -26,8 +26,9 @@ use Rattle.protocol.proofs.Replies.{reply_length}
 use Rattle.controller.specs.declared.State.{State}
 use Rattle.controller.specs.declared.Input.{Input}
 use Rattle.controller.specs.declared.Input.TheVariants.{Byte}
-use Rattle.controller.specs.declared.Answer.{Answer}
-use Rattle.controller.specs.declared.Answer.TheVariants.{Taken, OutOfRange, QueueFull, MotionFull, BufferShort}
+use Rattle.controller.specs.declared.Refusal.{Refusal}
+use Rattle.std.specs.Prelude.{Result, Ok, Err}
+use Rattle.controller.specs.declared.Refusal.TheVariants.{OutOfRange, QueueFull, MotionFull, BufferShort}
 use Rattle.controller.specs.State.{contents}
 use Rattle.controller.specs.Host.{Due, resumed_packets, acted, executes, effect, host_due}
 use Rattle.controller.specs.Step.{due, told, verdict, step}
@@ -54,13 +55,13 @@ inquiry_written s q between out =
     ∙ whole_written s q (code_of q) (ap (λ e. e.meaning) (known q)) out
 
 -- an input taken writes what is due
-told_written : (a : Answer) (s : State) (d : Due) → (told a s d).answer ≡ 0 → (told a s d).written ≡ d.written
+told_written : (a : Result ℕ Refusal) (s : State) (d : Due) → (told a s d).answer ≡ 0 → (told a s d).written ≡ d.written
 unfolding told
-told_written Taken s d e = refl
-told_written OutOfRange s d e = absurd (omega (arith, e))
-told_written QueueFull s d e = absurd (omega (arith, e))
-told_written MotionFull s d e = absurd (omega (arith, e))
-told_written BufferShort s d e = absurd (omega (arith, e))
+told_written (Ok count) s d e = refl
+told_written (Err OutOfRange) s d e = absurd (omega (arith, e))
+told_written (Err QueueFull) s d e = absurd (omega (arith, e))
+told_written (Err MotionFull) s d e = absurd (omega (arith, e))
+told_written (Err BufferShort) s d e = absurd (omega (arith, e))
 
 -- the step that takes an inquiry writes its reply last
 replied : (s : State) (q : Inquiry) (lent : ℕ) → Between s.command → monitors s.settings.stick ≡ false →

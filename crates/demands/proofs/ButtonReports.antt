@@ -9,7 +9,8 @@ use borrow.Author.Tests.{eqb-true}
 use Rattle.output.specs.ScanCodes.{arrow_right, arrow_left, arrow_up, arrow_down}
 use Rattle.output.specs.Packets.{Packet, pairs}
 use Rattle.output.proofs.Cases.{both_ways}
-use Rattle.motion.specs.declared.Motions.{Motions}
+use Rattle.motion.specs.declared.Motion.{Motion}
+use Rattle.motion.specs.declared.Axes.{Axes}
 use Rattle.protocol.specs.declared.MouseMode.{MouseMode}
 use Rattle.protocol.specs.declared.MouseMode.TheVariants.{Relative, Absolute, Keycode}
 use Rattle.protocol.specs.declared.Settings.{Settings}
@@ -26,8 +27,9 @@ use Rattle.mouse.proofs.Dues.{others_due}
 use Rattle.sticks.proofs.Sends.{OfEach, of_stick_moved}
 use Rattle.controller.specs.declared.State.{State}
 use Rattle.controller.specs.declared.Input.TheVariants.{Button}
-use Rattle.controller.specs.declared.Answer.{Answer}
-use Rattle.controller.specs.declared.Answer.TheVariants.{Taken, OutOfRange, QueueFull, MotionFull, BufferShort}
+use Rattle.controller.specs.declared.Refusal.{Refusal}
+use Rattle.std.specs.Prelude.{Result, Ok, Err}
+use Rattle.controller.specs.declared.Refusal.TheVariants.{OutOfRange, QueueFull, MotionFull, BufferShort}
 use Rattle.controller.specs.Host.{Due, Effect}
 use Rattle.controller.specs.Events.{of_mouse, of_sticks, with_trigger, fired, button, event, event_due, happened, map_after}
 use Rattle.controller.specs.Step.{Out, due, verdict, told, step}
@@ -47,12 +49,12 @@ unfolding pairs
 none_in_pairs zero make = refl
 none_in_pairs (suc n) make = none_in_pairs n make
 
-none_in_split : (rest n k levels : ℕ) (d : Motions) → has_report (split_from rest n k levels d) ≡ false
+none_in_split : (rest n k levels : ℕ) (d : Axes Motion) → has_report (split_from rest n k levels d) ≡ false
 unfolding split_from
 none_in_split zero n k levels d = refl
 none_in_split (suc rest) n k levels d = none_in_split rest n (k + 1) levels d
 
-none_in_arrows : (d : Motions) → has_report (arrows d) ≡ false
+none_in_arrows : (d : Axes Motion) → has_report (arrows d) ≡ false
 unfolding arrows
 none_in_arrows d =
     let right = pairs d.x.plus arrow_right in
@@ -170,11 +172,11 @@ module _ (s : State) (side : Side) (down : Bool) where
   due_of : Effect → Due
   due_of e = happened e.packets e.mouse e.sticks e.clock s.keys s
 
-  reported_due : has_report (due s (Button side down)).packets ≡ true → told Taken s (due s (Button side down)) ≡ button_reported side down s
+  reported_due : has_report (due s (Button side down)).packets ≡ true → told (Ok 0) s (due s (Button side down)) ≡ button_reported side down s
   unfolding due event_due event button map_after effect_of due_of happened told report after
   reported_due = by (gives_fire s.settings side down s.mouse)
     where
-      by : (fire : Bool) → has_report (effect_of fire).packets ≡ true → told Taken s (due_of (effect_of fire)) ≡ button_reported side down s
+      by : (fire : Bool) → has_report (effect_of fire).packets ≡ true → told (Ok 0) s (due_of (effect_of fire)) ≡ button_reported side down s
       by true r = absurd (false≢true (sym (of_stick_moved NoReport s.settings (none_of_sticks s.settings.stick) true (with_trigger down s.sticks.one) s.sticks).none ∙ r))
       by false r =
           let k = presses_report s.settings side down s.mouse (sym (in_others (presses s.settings side down s.mouse)) ∙ r) in
@@ -182,13 +184,13 @@ module _ (s : State) (side : Side) (down : Bool) where
           (λ j. reporting (sym (shows (with_button side down s) k.absolute) j))
 
 -- a refusal has no packets
-told_reports : (w : Answer) (s : State) (d : Due) → has_report (told w s d).packets ≡ true → told w s d ≡ told Taken s d
+told_reports : (w : Result ℕ Refusal) (s : State) (d : Due) → has_report (told w s d).packets ≡ true → told w s d ≡ told (Ok 0) s d
 unfolding told
-told_reports Taken s d r = refl
-told_reports OutOfRange s d r = absurd (false≢true r)
-told_reports QueueFull s d r = absurd (false≢true r)
-told_reports MotionFull s d r = absurd (false≢true r)
-told_reports BufferShort s d r = absurd (false≢true r)
+told_reports (Ok count) s d r = refl
+told_reports (Err OutOfRange) s d r = absurd (false≢true r)
+told_reports (Err QueueFull) s d r = absurd (false≢true r)
+told_reports (Err MotionFull) s d r = absurd (false≢true r)
+told_reports (Err BufferShort) s d r = absurd (false≢true r)
 
 pub button_reports : ButtonReports
 unfolding step told

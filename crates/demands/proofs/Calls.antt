@@ -20,7 +20,7 @@ use Rattle.controller.specs.declared.Input.TheVariants.{Byte, Button}
 use Rattle.controller.specs.State.{IsState, power_up, contents}
 use Rattle.controller.specs.Step.{Out, Did, step}
 use Rattle.controller.specs.Sequences.{after, history, done, resets_by}
-use Rattle.controller.proofs.Answers.{step_fits, did_answer, did_write}
+use Rattle.controller.proofs.Answers.{step_fits, did_answer, did_count, did_write}
 use Rattle.controller.proofs.Delivery.{step_drops}
 use Rattle.controller.proofs.States.{keeps}
 use Rattle.demands.specs.Demand1.{ByTable}
@@ -84,11 +84,11 @@ demand_1_calls s c h x p =
       by_table = subst (λ (n : ℕ). ByTable s c.input lent n) (sym e) d.by_table;
       refused = λ no.
           let k = d.refused (λ z. no (e ∙ z)) in
-          (p.count ∙ ap length k.1, p.state ∙ k.0, p.buffer ∙ k.2 c.before);
-      most = omega (arith, p.count, d.most);
-      within = omega (arith, p.count, step_fits s c.input lent);
+          (did_count s c.input p ∙ ap length k.1, p.state ∙ k.0, p.buffer ∙ k.2 c.before);
+      most = omega (arith, did_count s c.input p, d.most);
+      within = omega (arith, did_count s c.input p, step_fits s c.input lent);
       as_long = ap length p.buffer ∙ length_over w c.before (step_fits s c.input lent);
-      past_count = rw (p.count, p.buffer) (drop-append_seam w _);
+      past_count = rw (did_count s c.input p, p.buffer) (drop-append_seam w _);
       is_state = subst IsState (sym p.state) (keeps s c.input lent h x);
     }
 
@@ -156,7 +156,7 @@ right_button_fires_calls s down b c h g p q eb ec same =
     let a = did_answer s i stick in
     record {
       answer = did_answer s (Button Right down) button ∙ ap (λ (o : Out). o.answer) f ∙ sym a;
-      count = button.count ∙ ap (λ (o : Out). length o.written) f ∙ sym stick.count;
+      count = did_count s (Button Right down) button ∙ ap (λ (o : Out). length o.written) f ∙ sym (did_count s i stick);
       buffer = button.buffer ∙ ap (λ (o : Out). over o.written b.before) f ∙ sym stick.buffer;
       state = button.state ∙ ap (λ (o : Out). o.state) f ∙ (λ j. level_after down (sym a j) (sym stick.state j));
     }
@@ -166,7 +166,7 @@ pub wrote_nothing : {s : State} {i : Input} {c : Call} → Did s i c.before c.re
     (step s i (length c.before)).written ≡ [] → WroteNothing c
 wrote_nothing {s} {i} {c} d a w = record {
   taken = did_answer s i d ∙ a;
-  count = d.count ∙ ap length w;
+  count = did_count s i d ∙ ap length w;
   buffer = d.buffer ∙ ap (λ (bs : List ℕ). over bs c.before) w ∙ sym (over_nil c.before);
 }
 

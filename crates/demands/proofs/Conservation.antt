@@ -38,8 +38,9 @@ use Rattle.sticks.proofs.Sends.{OfEach, of_stick_moved, of_ticked, of_sampled, o
 use Rattle.controller.specs.declared.State.{State}
 use Rattle.controller.specs.declared.Input.{Input}
 use Rattle.controller.specs.declared.Input.TheVariants.{Byte, Key, Button, Move, Joystick, Sample, Tick}
-use Rattle.controller.specs.declared.Answer.{Answer}
-use Rattle.controller.specs.declared.Answer.TheVariants.{Taken, OutOfRange, QueueFull, MotionFull, BufferShort}
+use Rattle.controller.specs.declared.Refusal.{Refusal}
+use Rattle.std.specs.Prelude.{Result, Ok, Err}
+use Rattle.controller.specs.declared.Refusal.TheVariants.{OutOfRange, QueueFull, MotionFull, BufferShort}
 use Rattle.controller.specs.Host.{Due, Effect, silent, mouse_effect, stick_effect, other_effect, effect, resumed_packets, resumed_mouse, acted, executes, host_due, reading, command_executed, is_reset}
 use Rattle.controller.specs.Events.{happened, key_packets, button, event, event_due}
 use Rattle.controller.specs.Step.{due, told, verdict, step}
@@ -187,14 +188,14 @@ module _ (a : Axis) where
   due_adds s (Sample b) r h = stays s.mouse (of_sampled Mute s.settings (sticks_mute s.settings.stick) s.paused (nat_abs b) s.sticks)
   due_adds s Tick r h = stays s.mouse (of_ticked Mute s.settings (sticks_mute s.settings.stick) s.paused s.sticks)
 
-  told_adds : (w : Answer) (s : State) (d : Due) (z : ℤ) → (told w s d).answer ≡ 0 → Adds s.mouse z d.packets d.state.mouse →
+  told_adds : (w : Result ℕ Refusal) (s : State) (d : Due) (z : ℤ) → (told w s d).answer ≡ 0 → Adds s.mouse z d.packets d.state.mouse →
       Adds s.mouse z (told w s d).packets (told w s d).state.mouse
   unfolding told
-  told_adds Taken s d z e k = k
-  told_adds OutOfRange s d z e k = absurd (omega arith)
-  told_adds QueueFull s d z e k = absurd (omega arith)
-  told_adds MotionFull s d z e k = absurd (omega arith)
-  told_adds BufferShort s d z e k = absurd (omega arith)
+  told_adds (Ok count) s d z e k = k
+  told_adds (Err OutOfRange) s d z e k = absurd (omega arith)
+  told_adds (Err QueueFull) s d z e k = absurd (omega arith)
+  told_adds (Err MotionFull) s d z e k = absurd (omega arith)
+  told_adds (Err BufferShort) s d z e k = absurd (omega arith)
 
   -- a step that is taken
   step_adds : (s : State) (i : Input) (lent : ℕ) → (step s i lent).answer ≡ 0 → s.settings.mouse ≡ Relative → Spared (executed_by s i) →

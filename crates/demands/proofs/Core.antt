@@ -13,8 +13,9 @@ use Rattle.protocol.proofs.Core.{Core, eats, eats_append}
 use Rattle.controller.specs.declared.State.{State}
 use Rattle.controller.specs.declared.Input.{Input}
 use Rattle.controller.specs.declared.Input.TheVariants.{Byte, Key, Button, Move, Joystick, Sample, Tick}
-use Rattle.controller.specs.declared.Answer.{Answer}
-use Rattle.controller.specs.declared.Answer.TheVariants.{Taken, OutOfRange, QueueFull, MotionFull, BufferShort}
+use Rattle.controller.specs.declared.Refusal.{Refusal}
+use Rattle.std.specs.Prelude.{Result, Ok, Err}
+use Rattle.controller.specs.declared.Refusal.TheVariants.{OutOfRange, QueueFull, MotionFull, BufferShort}
 use Rattle.controller.specs.Host.{Due, silent, reading, acted, reset_due, executes, host_due}
 use Rattle.controller.specs.Events.{happened, event_due}
 use Rattle.controller.specs.Step.{due, told, verdict, step}
@@ -55,21 +56,21 @@ host_core (whole code ps) s = go (executed (meaning_of code) ps s.settings)
     go false = refl
 
 -- an event that keeps the two keeps them, taken or refused
-event_core : (a : Answer) (s : State) (d : Due) → core d.state ≡ core s → core (told a s d).state ≡ core s
+event_core : (a : Result ℕ Refusal) (s : State) (d : Due) → core d.state ≡ core s → core (told a s d).state ≡ core s
 unfolding told
-event_core Taken s d e = e
-event_core OutOfRange s d e = refl
-event_core QueueFull s d e = refl
-event_core MotionFull s d e = refl
-event_core BufferShort s d e = refl
+event_core (Ok count) s d e = e
+event_core (Err OutOfRange) s d e = refl
+event_core (Err QueueFull) s d e = refl
+event_core (Err MotionFull) s d e = refl
+event_core (Err BufferShort) s d e = refl
 
-told_core : (a : Answer) (s : State) (i : Input) → core (told a s (due s i)).state ≡ eats (core s) (byte_taken i (told a s (due s i)).answer)
+told_core : (a : Result ℕ Refusal) (s : State) (i : Input) → core (told a s (due s i)).state ≡ eats (core s) (byte_taken i (told a s (due s i)).answer)
 unfolding told due happened event_due
-told_core Taken s (Byte b) = host_core (feed s.command b) s
-told_core OutOfRange s (Byte b) = refl
-told_core QueueFull s (Byte b) = refl
-told_core MotionFull s (Byte b) = refl
-told_core BufferShort s (Byte b) = refl
+told_core (Ok count) s (Byte b) = host_core (feed s.command b) s
+told_core (Err OutOfRange) s (Byte b) = refl
+told_core (Err QueueFull) s (Byte b) = refl
+told_core (Err MotionFull) s (Byte b) = refl
+told_core (Err BufferShort) s (Byte b) = refl
 told_core a s (Key code down) = event_core a s (due s (Key code down)) refl
 told_core a s (Button side down) = event_core a s (due s (Button side down)) refl
 told_core a s (Move dx dy) = event_core a s (due s (Move dx dy)) refl

@@ -1,6 +1,7 @@
 -- Demand 1: every input gets an answer, and the table says exactly which.
 -- Assumes nothing.
 use Prim.Native.Nat.{ℕ, ◌≤◌}
+use lib.ListN.{length}
 use native.Mathlib.Omega.{arith}
 use mathlib.Core.Path.{◌≡◌, refl, sym, ap, ◌∙◌}
 use mathlib.Core.Logic.{◌↔◌}
@@ -10,7 +11,8 @@ use Rattle.output.specs.Writing.{over}
 use Rattle.output.proofs.Writing.{over_nil}
 use Rattle.controller.specs.declared.State.{State}
 use Rattle.controller.specs.declared.Input.{Input}
-use Rattle.controller.specs.declared.Answer.TheVariants.{Taken, OutOfRange, QueueFull, MotionFull, BufferShort}
+use Rattle.std.specs.Prelude.{Ok, Err}
+use Rattle.controller.specs.declared.Refusal.TheVariants.{OutOfRange, QueueFull, MotionFull, BufferShort}
 use Rattle.controller.specs.Host.{Due}
 use Rattle.controller.specs.Step.{due, out_of_range, queue_full, motion_full, buffer_short, verdict, told, step}
 use Rattle.controller.proofs.Refusals.{queue_or_motion, queue_or_buffer, motion_or_buffer, refusal_keeps}
@@ -22,7 +24,7 @@ number : Bool → Bool → Bool → Bool → ℕ
 number a b c d = cond a 1 (cond b 2 (cond c 3 (cond d 4 0)))
 
 number_told : (a b c d : Bool) (s : State) (u : Due) →
-    (told (cond a OutOfRange (cond b QueueFull (cond c MotionFull (cond d BufferShort Taken)))) s u).answer ≡ number a b c d
+    (told (cond a (Err OutOfRange) (cond b (Err QueueFull) (cond c (Err MotionFull) (cond d (Err BufferShort) (Ok (length u.written)))))) s u).answer ≡ number a b c d
 unfolding number told
 number_told true b c d s u = refl
 number_told false true c d s u = refl

@@ -11,7 +11,7 @@ use borrow.Author.Tests.{not-true, le-leb, le-ltb}
 use Rattle.output.specs.Packets.{bytes}
 use Rattle.output.specs.Writing.{over}
 use Rattle.output.proofs.Cases.{both_ways}
-use Rattle.protocol.specs.declared.Axes.{Axes}
+use Rattle.motion.specs.declared.Axes.{Axes}
 use Rattle.protocol.specs.declared.MouseMode.{MouseMode}
 use Rattle.protocol.specs.declared.MouseMode.TheVariants.{Relative, Absolute, Keycode}
 use Rattle.protocol.specs.declared.Settings.{Settings}
@@ -30,21 +30,21 @@ use Rattle.mouse.specs.Moves.{either_reaches, send_deltas, motion_due, released}
 use Rattle.mouse.specs.Buttons.{with_level, unchanged, presses, gives_fire}
 use Rattle.mouse.proofs.Dues.{quiet_due}
 use Rattle.sticks.specs.Sticks.{most_position}
-use Rattle.controller.specs.declared.Queue.{Queue}
+use Rattle.output.specs.declared.Run.{Run}
 use Rattle.controller.specs.declared.State.{State}
 use Rattle.controller.specs.declared.Input.TheVariants.{Byte, Button}
-use Rattle.controller.specs.declared.Answer.{Answer}
-use Rattle.controller.specs.declared.Answer.TheVariants.{Taken, OutOfRange, QueueFull, MotionFull, BufferShort}
+use Rattle.controller.specs.declared.Refusal.{Refusal}
+use Rattle.std.specs.Prelude.{Result, Ok, Err}
+use Rattle.controller.specs.declared.Refusal.TheVariants.{OutOfRange, QueueFull, MotionFull, BufferShort}
 use Rattle.controller.specs.State.{IsState, contents, queue_of, queue_room}
 use Rattle.controller.specs.Host.{Due, resumed_packets, resumed_mouse, other_effect, effect, acted, executes, host_due, reading, command_executed}
 use Rattle.controller.specs.Host as host
 use Rattle.controller.specs.Events.{button, event, event_due, happened, map_after}
 use Rattle.controller.specs.Step.{due, in_range, out_of_range, queue_full, too_far, motion_full, buffer_short, verdict, number, Out, refused, told, step}
 use Rattle.controller.proofs.Lengths.{queue_small}
-use Rattle.controller.proofs.Applying.{stays}
 use Rattle.controller.proofs.Delivery.{nothing_waits}
 use Rattle.controller.proofs.Results.{queue_grown}
-use Rattle.controller.proofs.Answers.{verdict_taken, host_taken}
+use Rattle.controller.proofs.Answers.{taken, verdict_taken, host_taken}
 use Rattle.demands.specs.FireButton.{GivesFire, stick_1, level_changed, and_level, RightButtonFires, NoFire, left, on, joystick, monitoring, same, OthersStaySilent, SwitchLeaves, SwitchedOff, SwitchingOffSendsNothing}
 
 -- the case of the request is that of the definition
@@ -73,13 +73,13 @@ fire_verdict : (s : State) (down : Bool) (lent : ℕ) → IsState s → gives_fi
 unfolding verdict out_of_range in_range queue_full motion_full too_far buffer_short
 fire_verdict s down lent h g = rw (fire_due s down g, fire_range s down h)
 
-told_level : (a : Answer) (s : State) (d : Due) (down : Bool) → told a s (leveled down d) ≡ and_level down (told a s d)
+told_level : (a : Result ℕ Refusal) (s : State) (d : Due) (down : Bool) → told a s (leveled down d) ≡ and_level down (told a s d)
 unfolding told
-told_level Taken s d down = refl
-told_level OutOfRange s d down = refl
-told_level QueueFull s d down = refl
-told_level MotionFull s d down = refl
-told_level BufferShort s d down = refl
+told_level (Ok count) s d down = refl
+told_level (Err OutOfRange) s d down = refl
+told_level (Err QueueFull) s d down = refl
+told_level (Err MotionFull) s d down = refl
+told_level (Err BufferShort) s d down = refl
 
 pub right_button_fires : RightButtonFires
 unfolding step
@@ -120,7 +120,7 @@ queue_stays : (s : State) → IsState s → cond s.paused (queue_of (contents s.
 unfolding over
 queue_stays s h =
     let q = s.queue in
-    both_ways (λ (x : Queue). x ≡ q) s.paused
+    both_ways (λ (x : Run queue_room). x ≡ q) s.paused
     (λ _. sym (queue_grown s.paused q [] h.ranges.queue h.spelling.queue (omega (arith, queue_small s h)))
     ∙ (λ j. record { bytes = take-append-drop q.len q.bytes j; len = add-zero q.len j }))
     (λ _. refl)
@@ -129,7 +129,7 @@ module _ (s : State) (side : Side) (down : Bool) (h : IsState s) (l : live s.set
   level_due : due s (Button side down) ≡ host.silent (level_changed side down s)
   unfolding due event_due event button happened map_after
   level_due =
-      let none = sym (stays s.paused []) in
+      let none = both_ways (λ (l : List ℕ). l ≡ []) s.paused (λ _. refl) (λ _. refl) in
       rw (no_fire s side down n, only_level s.settings side down s.mouse l, quiet_due (with_level side down s.mouse))
       (λ j. record {
         packets = [];
@@ -148,7 +148,7 @@ module _ (s : State) (side : Side) (down : Bool) (h : IsState s) (l : live s.set
         };
       })
 
-  level_taken : (lent : ℕ) → verdict s (Button side down) lent ≡ Taken
+  level_taken : (lent : ℕ) → verdict s (Button side down) lent ≡ taken s (Button side down)
   unfolding queue_full motion_full too_far buffer_short in_range
   level_taken lent =
       verdict_taken s (Button side down) lent refl
@@ -161,7 +161,7 @@ unfolding step told
 others_stay_silent s side down lent h l n = rw (level_taken s side down h l n lent, level_due s side down h l n)
 
 -- a resume changes nothing of the mouse but held motion
-due_held : (mode : MouseMode) (t : Axes) (m : Mouse) → let n = (motion_due mode t m).mouse in n ≡ with_held n.held m
+due_held : (mode : MouseMode) (t : Axes ℕ) (m : Mouse) → let n = (motion_due mode t m).mouse in n ≡ with_held n.held m
 unfolding motion_due send_all send_deltas
 due_held Relative t m = both_ways (λ (d : MouseDue). d.mouse ≡ with_held d.mouse.held m) (either_reaches t m.held) (λ _. refl) (λ _. refl)
 due_held (Absolute maximum) t m = refl
@@ -199,21 +199,21 @@ module _ (s : State) where
       by false e = absurd (let z : ◌≡◌ {A = ℕ} 0 1 = cc in omega arith)
 
   -- a refusal, which is none where output is not paused
-  off_refused : (a : Answer) (o : Out) → (number a ≡ 0 → ⊥) → o ≡ refused a s → (s.paused ≡ false → a ≡ Taken) → SwitchedOff s o
+  off_refused : (a : Refusal) (o : Out) → (number (Err a) ≡ 0 → ⊥) → o ≡ refused a s → (s.paused ≡ false → number (Err a) ≡ 0) → SwitchedOff s o
   off_refused a o n e silent = rw e (record {
-    silent = λ p. absurd (n (ap number (silent p)));
+    silent = λ p. absurd (n (silent p));
     resumes = λ z. absurd (n z);
     writes = λ z. absurd (n z);
     leaves = record { sticks = refl; right = refl; left = refl };
   })
 
-  told_off : (a : Answer) (d : Due) → Switched d → (s.paused ≡ false → (a ≡ Taken) × (d.written ≡ [])) → SwitchedOff s (told a s d)
+  told_off : (a : Result ℕ Refusal) (d : Due) → Switched d → (s.paused ≡ false → (number a ≡ 0) × (d.written ≡ [])) → SwitchedOff s (told a s d)
   unfolding told
-  told_off Taken d k silent = record { silent = λ p. (refl, (silent p).1); resumes = λ _. k.packets; writes = λ _. k.written; leaves = k.leaves }
-  told_off OutOfRange d k silent = off_refused OutOfRange _ (λ e. omega arith) refl (λ p. (silent p).0)
-  told_off QueueFull d k silent = off_refused QueueFull _ (λ e. omega arith) refl (λ p. (silent p).0)
-  told_off MotionFull d k silent = off_refused MotionFull _ (λ e. omega arith) refl (λ p. (silent p).0)
-  told_off BufferShort d k silent = off_refused BufferShort _ (λ e. omega arith) refl (λ p. (silent p).0)
+  told_off (Ok count) d k silent = record { silent = λ p. (refl, (silent p).1); resumes = λ _. k.packets; writes = λ _. k.written; leaves = k.leaves }
+  told_off (Err OutOfRange) d k silent = off_refused OutOfRange _ (λ e. omega arith) refl (λ p. (silent p).0)
+  told_off (Err QueueFull) d k silent = off_refused QueueFull _ (λ e. omega arith) refl (λ p. (silent p).0)
+  told_off (Err MotionFull) d k silent = off_refused MotionFull _ (λ e. omega arith) refl (λ p. (silent p).0)
+  told_off (Err BufferShort) d k silent = off_refused BufferShort _ (λ e. omega arith) refl (λ p. (silent p).0)
 
 pub switching_off_sends_nothing : SwitchingOffSendsNothing
 unfolding step due
@@ -222,4 +222,4 @@ switching_off_sends_nothing s b lent h e =
     let k = off_executes s (feed s.command b) e in
     told_off s (verdict s (Byte b) lent) d k (λ p.
     let none : d.written ≡ [] = k.written ∙ rw (nothing_waits s.queue (rw p at h.ranges.queue), p, quiet_due s.mouse) in
-    (host_taken s b lent h.ranges.queue (omega (arith, ap length none)), none))
+    (ap number (host_taken s b lent h.ranges.queue (omega (arith, ap length none))), none))

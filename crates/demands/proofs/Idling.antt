@@ -18,11 +18,11 @@ use Rattle.protocol.proofs.Segments.{feed_between}
 use Rattle.controller.specs.declared.State.{State}
 use Rattle.controller.specs.declared.Input.{Input}
 use Rattle.controller.specs.declared.Input.TheVariants.{Byte}
-use Rattle.controller.specs.declared.Answer.{Answer}
-use Rattle.controller.specs.declared.Answer.TheVariants.{Taken}
+use Rattle.controller.specs.declared.Refusal.{Refusal}
+use Rattle.std.specs.Prelude.{Result, Ok}
 use Rattle.controller.specs.State.{IsState}
 use Rattle.controller.specs.Host.{Due, host_due, reset_packets}
-use Rattle.controller.specs.Step.{IsInput, due, verdict, told, step}
+use Rattle.controller.specs.Step.{IsInput, due, verdict, count_of, told, step}
 use Rattle.controller.proofs.Answers.{host_taken}
 use Rattle.controller.proofs.States.{keeps}
 use Rattle.demands.specs.ShutOut.{Controller, Meets, Later, now, next, IdlesFrom}
@@ -69,11 +69,11 @@ module _ (c : Controller) (m : Meets c) where
       let n : ℕ = length d.written in
       let lent : List ℕ = replicate n 0 in
       let long : length lent ≡ n = length-replicate n 0 in
-      let taken : verdict s (Byte b) (length lent) ≡ Taken = host_taken s b (length lent) h.is_state.ranges.queue (omega arith) in
+      let taken : verdict s (Byte b) (length lent) ≡ Ok n = host_taken s b (length lent) h.is_state.ranges.queue (omega arith) in
       let done = m (record { state = s; is_state = h.is_state; input = Byte b; is_input = x; lent = lent; is_lent = zeros_are_bytes n }) in
-      let none : (c s (Byte b) lent).stepped.count ≡ 0 = h.idles s now (Byte b) x lent (zeros_are_bytes n) in
-      let state : (step s (Byte b) (length lent)).state ≡ d.state = ap (λ (a : Answer). (told a s d).state) taken in (
-        sym (done.count ∙ ap (λ (a : Answer). length (told a s d).written) taken) ∙ none,
+      let none : count_of (c s (Byte b) lent).stepped.answer ≡ 0 = h.idles s now (Byte b) x lent (zeros_are_bytes n) in
+      let state : (step s (Byte b) (length lent)).state ≡ d.state = ap (λ (a : Result ℕ Refusal). (told a s d).state) taken in (
+        sym (ap count_of (done.answer ∙ taken)) ∙ none,
         record {
           is_state = subst IsState state (keeps s (Byte b) (length lent) h.is_state x);
           idles = subst (IdlesFrom c) (done.state ∙ state) (λ t l. h.idles t (later (Byte b) x lent (zeros_are_bytes n) l));

@@ -11,7 +11,7 @@ use borrow.Author.Tests.{leb-true, leb-false, ltb-true, ltb-false}
 use Rattle.output.specs.Packets.{Packet, bytes}
 use Rattle.output.proofs.Cases.{both_ways}
 use Rattle.output.proofs.Writing.{over_nil}
-use Rattle.protocol.specs.declared.Axes.{Axes}
+use Rattle.motion.specs.declared.Axes.{Axes}
 use Rattle.protocol.specs.declared.MouseMode.{MouseMode}
 use Rattle.protocol.specs.declared.MouseMode.TheVariants.{Relative, Absolute, Keycode}
 use Rattle.protocol.specs.Settings.{is_absolute}
@@ -33,7 +33,8 @@ use Rattle.mouse.proofs.Dues.{quiet_due, others_due}
 use Rattle.sticks.specs.Commands.{mouse_commanded}
 use Rattle.controller.specs.declared.State.{State}
 use Rattle.controller.specs.declared.Input.TheVariants.{Byte}
-use Rattle.controller.specs.declared.Answer.TheVariants.{Taken, BufferShort}
+use Rattle.std.specs.Prelude.{Ok}
+use Rattle.controller.specs.declared.Refusal.TheVariants.{BufferShort}
 use Rattle.controller.specs.Host.{Due, silent, mouse_effect, effect, acted, executes, host_due, reading, command_executed}
 use Rattle.controller.specs.State.{contents}
 use Rattle.controller.specs.Step.{Out, due, verdict, refused, told, step}
@@ -129,7 +130,7 @@ clearing s = record {
 -- ---- 0x0D
 
 -- in absolute mode a resume sends no motion, and changes nothing of the mouse
-none_due : (mode : MouseMode) (t : Axes) (m : Mouse) → is_absolute mode ≡ true → motion_due mode t m ≡ quiet m
+none_due : (mode : MouseMode) (t : Axes ℕ) (m : Mouse) → is_absolute mode ≡ true → motion_due mode t m ≡ quiet m
 unfolding motion_due
 none_due Relative t m e = absurd (true≢false (sym e))
 none_due (Absolute maximum) t m e = refl
@@ -153,7 +154,7 @@ module _ (s : State) where
     state = mouse_changed (mouse.cleared m) (resumed_for_mouse s);
   }
 
-  acts : (ps : List ℕ) → is_absolute s.settings.mouse ≡ true → told Taken s (acted (OfMouse ReportPosition) ps s) ≡ interrogated s
+  acts : (ps : List ℕ) → is_absolute s.settings.mouse ≡ true → told (Ok 0) s (acted (OfMouse ReportPosition) ps s) ≡ interrogated s
   unfolding acted effect mouse_effect commanded sets mouse_sets mouse_commanded told cleared report
   acts ps e =
       let m = s.mouse in
@@ -163,13 +164,13 @@ module _ (s : State) where
       ∙ (λ j. coming_to m [] (report m ∷ []) (sym (shows (resumed_for_mouse s) e) j))
 
   -- a byte that completes it
-  acts_on : (f : Fed) → command_executed f s.settings ≡ OfMouse ReportPosition → told Taken s (host_due f s) ≡ interrogated s
+  acts_on : (f : Fed) → command_executed f s.settings ≡ OfMouse ReportPosition → told (Ok 0) s (host_due f s) ≡ interrogated s
   unfolding host_due command_executed executes executed mouse_executed
   acts_on (half c) e = absurd (let z : ◌≡◌ {A = ℕ} 0 1 = cc in omega arith)
   acts_on (whole code ps) e = by (executed (meaning_of code) ps s.settings) refl e
     where
       by : (t : Bool) → executed (meaning_of code) ps s.settings ≡ t → cond t (meaning_of code) Nothing ≡ OfMouse ReportPosition →
-          told Taken s (cond t (executes (meaning_of code) ps s) (silent (reading (whole code ps) s))) ≡ interrogated s
+          told (Ok 0) s (cond t (executes (meaning_of code) ps s) (silent (reading (whole code ps) s))) ≡ interrogated s
       by true x e = rw e (acts ps (sym (ap (λ (m : Meaning). executed m ps s.settings) e) ∙ x))
       by false x e = absurd (let z : ◌≡◌ {A = ℕ} 0 1 = cc in omega arith)
 
@@ -180,7 +181,7 @@ interrogation s b lent h e = by (leb (length (interrogated s).written) lent) ref
     d : Due
     d = host_due (feed s.command b) s
 
-    as_taken : told Taken s d ≡ interrogated s
+    as_taken : told (Ok 0) s d ≡ interrogated s
     as_taken = acts_on s (feed s.command b) e
 
     as_long : length d.written ≡ length (interrogated s).written

@@ -12,12 +12,12 @@ use Rattle.output.specs.Writing.{over}
 use Rattle.protocol.specs.Settings.{is_absolute}
 use Rattle.controller.specs.declared.State.{State}
 use Rattle.controller.specs.declared.Input.TheVariants.{Byte, Button}
-use Rattle.controller.specs.declared.Answer.TheVariants.{BufferShort}
+use Rattle.controller.specs.declared.Refusal.TheVariants.{BufferShort}
 use Rattle.controller.specs.State.{contents}
 use Rattle.controller.specs.Step.{Out, refused}
 use Rattle.controller.specs.Look.{look}
 use Rattle.controller.proofs.Answers.{did_answer, did_write}
-use Rattle.controller.proofs.Looking.{looked_answer, looked_bytes, looked_as_long}
+use Rattle.controller.proofs.Looking.{looked_answer, looked_count, looked_bytes, looked_as_long}
 use Rattle.demands.specs.Look.{six_bytes, ByLook, look_bytes, resumed_for_mouse, interrogated, with_button, reported_state}
 use Rattle.demands.specs.LookCalls.{shown_by, LookAnswersOfCalls, InterrogationOfCalls, InterrogationIgnoredOfCalls, ButtonReportsOfCalls}
 use Rattle.demands.proofs.Calls.{promised, wrote_nothing}
@@ -32,10 +32,10 @@ look_answers_calls s g p =
     let e = looked_answer s p in
     record {
       by_table = subst (ByLook s lent) (sym e) a.by_table;
-      six = λ z. let k = a.six (sym e ∙ z) in (p.count ∙ ap length k, looked_bytes s p ∙ k);
-      refused = λ no. let k = a.refused (λ z. no (e ∙ z)) in (p.count ∙ ap length k.0, p.buffer ∙ k.1 g.before);
+      six = λ z. let k = a.six (sym e ∙ z) in (looked_count s p ∙ ap length k, looked_bytes s p ∙ k);
+      refused = λ no. let k = a.refused (λ z. no (e ∙ z)) in (looked_count s p ∙ ap length k.0, p.buffer ∙ k.1 g.before);
       as_long = looked_as_long s p;
-      past_count = rw (p.count, p.buffer) (drop-append_seam (look s lent).written _);
+      past_count = rw (looked_count s p, p.buffer) (drop-append_seam (look s lent).written _);
     }
 
 -- what is answered 0 was not refused

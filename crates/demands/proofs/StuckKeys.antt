@@ -20,8 +20,9 @@ use Rattle.keys.proofs.Maps.{has_struck, has_others, those_same, break_codes}
 use Rattle.controller.specs.declared.State.{State}
 use Rattle.controller.specs.declared.Input.{Input}
 use Rattle.controller.specs.declared.Input.TheVariants.{Byte, Key, Button, Move, Joystick, Sample, Tick}
-use Rattle.controller.specs.declared.Answer.{Answer}
-use Rattle.controller.specs.declared.Answer.TheVariants.{Taken, OutOfRange, QueueFull, MotionFull, BufferShort}
+use Rattle.controller.specs.declared.Refusal.{Refusal}
+use Rattle.std.specs.Prelude.{Result, Ok, Err}
+use Rattle.controller.specs.declared.Refusal.TheVariants.{OutOfRange, QueueFull, MotionFull, BufferShort}
 use Rattle.controller.specs.Host.{Due, silent, reading, acted, reset_due, reset_packets, executes, host_due, command_executed, is_reset}
 use Rattle.controller.specs.Events.{happened, map_after, event_due}
 use Rattle.controller.specs.Step.{due, in_range, verdict, told, step}
@@ -79,14 +80,14 @@ input_does k (Sample b) m a r = refl
 input_does k Tick m a r = refl
 
 module _ (k : ℕ) (a : first_key ≤ k) where
-  told_does : (w : Answer) (s : State) (i : Input) → (w ≡ Taken → in_range i ≡ true) →
+  told_does : (w : Result ℕ Refusal) (s : State) (i : Input) → ((n : ℕ) → w ≡ Ok n → in_range i ≡ true) →
       has_key k (told w s (due s i)).state.keys ≡ cond (eqb (told w s (due s i)).answer 0) (down_by k i (has_key k s.keys)) (has_key k s.keys)
   unfolding told
-  told_does Taken s i r = ap (has_key k) (due_keys s i) ∙ input_does k i s.keys a (r refl)
-  told_does OutOfRange s i r = refl
-  told_does QueueFull s i r = refl
-  told_does MotionFull s i r = refl
-  told_does BufferShort s i r = refl
+  told_does (Ok count) s i r = ap (has_key k) (due_keys s i) ∙ input_does k i s.keys a (r count refl)
+  told_does (Err OutOfRange) s i r = refl
+  told_does (Err QueueFull) s i r = refl
+  told_does (Err MotionFull) s i r = refl
+  told_does (Err BufferShort) s i r = refl
 
   all_do : (s : State) (ts : List Turn) → has_key k (after s ts).keys ≡ down_after k (seen_in s ts) (has_key k s.keys)
   unfolding after history down_after step
@@ -94,7 +95,7 @@ module _ (k : ℕ) (a : first_key ≤ k) where
   all_do s (t ∷ ts) =
       let o = step s t.input t.lent in
       all_do o.state ts
-      ∙ ap (down_after k (seen_in o.state ts)) (told_does (verdict s t.input t.lent) s t.input (taken_range s t.input t.lent))
+      ∙ ap (down_after k (seen_in o.state ts)) (told_does (verdict s t.input t.lent) s t.input (λ n. taken_range s t.input t.lent))
 
 pub map_is_true : MapIsTrue
 map_is_true s ts k a = all_do k a s ts

@@ -25,7 +25,8 @@ use Rattle.protocol.specs.Codes.{meaning_of}
 use Rattle.protocol.specs.Replies.{code_of, kept_bytes, in_order}
 use Rattle.protocol.proofs.PutBack.{asks}
 use Rattle.clock.specs.Clock.{first_day}
-use Rattle.motion.specs.declared.Motions.{Motions}
+use Rattle.motion.specs.declared.Motion.{Motion}
+use Rattle.motion.specs.declared.Axes.{Axes}
 use Rattle.motion.specs.Motion.{at_rest}
 use Rattle.mouse.specs.Mouse.{with_held}
 use Rattle.protocol.specs.Reading.{no_command}
@@ -35,8 +36,8 @@ use Rattle.keys.specs.Keys.{no_keys}
 use Rattle.controller.specs.declared.State.{State}
 use Rattle.controller.specs.declared.Input.{Input}
 use Rattle.controller.specs.declared.Input.TheVariants.{Byte, Key, Move, Joystick, Tick}
-use Rattle.controller.specs.declared.Queue.{Queue}
-use Rattle.controller.specs.State.{power_up, empty_queue, IsState}
+use Rattle.output.specs.declared.Run.{Run}
+use Rattle.controller.specs.State.{power_up, empty_queue, IsState, queue_room}
 use Rattle.controller.specs.Sequences.{Turn, after}
 use Rattle.demands.specs.Demand3.{Seen, seen_in, taken, NoOther, last_8, Kept, Asking, SendingBack}
 use Rattle.demands.proofs.PutBack.{put_back}
@@ -99,11 +100,11 @@ kept_at : {h : List Seen} {q : Inquiry} {kept : List ℕ} (n : ℕ) → ltb n (l
 kept_at {h} n e i a k = record { of_step = at h n; among = at_mem h n (ltb-true n (length h) e); asks = i; is_taken = a; copied = k }
 
 -- the queue in which these bytes wait
-abbrev waits : List ℕ → Queue
-waits bs = record { bytes = over bs empty_queue.bytes; len = length bs }
+abbrev waits : List ℕ → Run queue_room
+waits bs = record { bytes = over bs (empty_queue {n = queue_room}).bytes; len = length bs }
 
 -- the state with these settings, pause, queue and held motion, and everything else as at power-up
-abbrev pub state_of : Settings → Bool → Queue → Motions → State
+abbrev pub state_of : Settings → Bool → Run queue_room → Axes Motion → State
 state_of σ paused queue held = record {
   settings = σ;
   command = no_command;

@@ -18,7 +18,7 @@ use Rattle.controller.specs.declared.Input.TheVariants.{Byte, Button}
 use Rattle.controller.specs.declared.Stepped.{Stepped}
 use Rattle.controller.specs.State.{IsState, power_up, contents, most_due}
 use Rattle.controller.specs.Host.{resumed_packets}
-use Rattle.controller.specs.Step.{number, Did, step, IsInput}
+use Rattle.controller.specs.Step.{number, count_of, Did, step, IsInput}
 use Rattle.controller.specs.Sequences.{Turn, AreInputs, executed_by, resets_by}
 use Rattle.demands.specs.Demand1.{ByTable}
 use Rattle.demands.specs.Demand2.{Flow, all_dropped, InOrder, Whole}
@@ -50,7 +50,7 @@ answer_of c = number c.result.answer
 
 -- what a call wrote: its count of bytes, at the buffer's start
 abbrev pub written_by : Call → List ℕ
-written_by c = take c.result.count c.buffer
+written_by c = take (count_of c.result.answer) c.buffer
 
 -- what a call's input and buffer are to the definition
 abbrev pub turn_of : Call → Turn
@@ -65,14 +65,14 @@ pub record AnsweredCall (s : State) (c : Call) : Type 0 where
   -- "It is taken, or it is refused for one of the four reasons in document 01."
   pub by_table : ByTable s c.input (length c.before) (answer_of c)
   -- "A refusal writes nothing and changes nothing, neither state nor buffer"
-  pub refused : (answer_of c ≡ 0 → ⊥) → (c.result.count ≡ 0) × (c.result.state ≡ s) × (c.buffer ≡ c.before)
+  pub refused : (answer_of c ≡ 0 → ⊥) → (count_of c.result.answer ≡ 0) × (c.result.state ≡ s) × (c.buffer ≡ c.before)
   -- "At most 8,264 bytes are ever due at once."
-  pub most : c.result.count ≤ most_due
+  pub most : count_of c.result.answer ≤ most_due
   -- "a count of bytes written at the buffer's start": they are within it, and it stays as long
-  pub within : c.result.count ≤ length c.before
+  pub within : count_of c.result.answer ≤ length c.before
   pub as_long : length c.buffer ≡ length c.before
   -- "On 0, buffer bytes past the count stay."
-  pub past_count : drop c.result.count c.buffer ≡ drop c.result.count c.before
+  pub past_count : drop (count_of c.result.answer) c.buffer ≡ drop (count_of c.result.answer) c.before
   -- "every answer to a state gives one": so of the next call too "no caller has to have tested anything first"
   pub is_state : IsState c.result.state
 
@@ -145,7 +145,7 @@ ResetNamesOfCalls = (s t : State) (cs : List Call) (c : Call) → Calls s cs t �
 -- two calls came to the same, but that the first changed the right button's level where it was taken
 pub record SameButForLevel (down : Bool) (b c : Call) : Type 0 where
   pub answer : answer_of b ≡ answer_of c
-  pub count : b.result.count ≡ c.result.count
+  pub count : count_of b.result.answer ≡ count_of c.result.answer
   pub buffer : b.buffer ≡ c.buffer
   pub state : b.result.state ≡ level_after down (answer_of c) c.result.state
 
@@ -157,7 +157,7 @@ RightButtonFiresOfCalls = (s : State) (down : Bool) (b c : Call) → IsState s �
 -- a call that was taken and wrote nothing
 pub record WroteNothing (c : Call) : Type 0 where
   pub taken : answer_of c ≡ 0
-  pub count : c.result.count ≡ 0
+  pub count : count_of c.result.answer ≡ 0
   pub buffer : c.buffer ≡ c.before
 
 -- A4 for calls: as OthersStaySilent

@@ -17,7 +17,7 @@ use Rattle.mouse.specs.Reports.{latch_byte, report}
 use Rattle.mouse.specs.Buttons.{with_level, with_latch}
 use Rattle.controller.specs.declared.State.{State}
 use Rattle.controller.specs.declared.Input.TheVariants.{Byte, Button}
-use Rattle.controller.specs.declared.Answer.TheVariants.{BufferShort}
+use Rattle.controller.specs.declared.Refusal.TheVariants.{BufferShort}
 use Rattle.controller.specs.State.{IsState, contents, queue_of, empty_queue}
 use Rattle.controller.specs.Step.{Out, refused, step}
 use Rattle.controller.specs.Sequences.{executed_by}

@@ -1,14 +1,14 @@
 -- A7 over calls in code, of the look and of the step, each known by its promise alone.
-use Rattle.std.specs.Prelude.{ℕ, ◌≡◌, Bool, true, cond, List, [], ◌++◌, length, take, drop}
+use Rattle.std.specs.Prelude.{ℕ, ◌≡◌, Bool, true, cond, List, [], ◌++◌, length, take, drop, Result}
 use Rattle.protocol.specs.declared.MouseCommand.TheVariants.{ReportPosition}
 use Rattle.protocol.specs.declared.Meaning.TheVariants.{OfMouse}
 use Rattle.protocol.specs.Reading.{Between}
 use Rattle.mouse.specs.declared.Side.{Side}
 use Rattle.controller.specs.declared.State.{State}
-use Rattle.controller.specs.declared.look.Looked.{Looked}
+use Rattle.controller.specs.declared.look.LookRefusal.{LookRefusal}
 use Rattle.controller.specs.declared.Input.TheVariants.{Byte, Button}
 use Rattle.controller.specs.State.{IsState, contents}
-use Rattle.controller.specs.Step.{step}
+use Rattle.controller.specs.Step.{count_of, step}
 use Rattle.controller.specs.Sequences.{executed_by}
 use Rattle.controller.specs.Look.{look_number, LookedAs, cleared}
 use Rattle.demands.specs.Calls.{Call, Promised, answer_of, written_by, WroteNothing}
@@ -17,7 +17,7 @@ use Rattle.demands.specs.Look.{six_bytes, ByLook, resumed_for_mouse, has_report,
 -- a look in code: the lent buffer before it, what it handed back, and the buffer after it
 pub record Glance : Type 0 where
   pub before : List ℕ
-  pub result : Looked
+  pub result : Result ℕ LookRefusal
   pub buffer : List ℕ
 
 -- the look's promise, of a glance at the state s
@@ -26,22 +26,22 @@ PromisedLook s g = LookedAs s g.before g.result g.buffer
 
 -- its answer number
 abbrev pub glance_answer : Glance → ℕ
-glance_answer g = look_number g.result.answer
+glance_answer g = look_number g.result
 
 -- what it shows: its count of bytes, at the buffer's start
 abbrev pub shown_by : Glance → List ℕ
-shown_by g = take g.result.count g.buffer
+shown_by g = take (count_of g.result) g.buffer
 
 -- what the answer to a glance at the value s says
 pub record AnsweredGlance (s : State) (g : Glance) : Type 0 where
   pub by_table : ByLook s (length g.before) (glance_answer g)
   -- "writes the report's six bytes into a lent buffer"
-  pub six : glance_answer g ≡ 0 → (g.result.count ≡ 6) × (shown_by g ≡ six_bytes s.mouse)
+  pub six : glance_answer g ≡ 0 → (count_of g.result ≡ 6) × (shown_by g ≡ six_bytes s.mouse)
   -- "A refusal writes nothing and changes nothing, neither state nor buffer"
-  pub refused : (glance_answer g ≡ 0 → ⊥) → (g.result.count ≡ 0) × (g.buffer ≡ g.before)
+  pub refused : (glance_answer g ≡ 0 → ⊥) → (count_of g.result ≡ 0) × (g.buffer ≡ g.before)
   -- the buffer stays as long, and "buffer bytes past the count stay"
   pub as_long : length g.buffer ≡ length g.before
-  pub past_count : drop g.result.count g.buffer ≡ drop g.result.count g.before
+  pub past_count : drop (count_of g.result) g.buffer ≡ drop (count_of g.result) g.before
 
 -- as LookAnswers
 abbrev pub LookAnswersOfCalls : Type 0

@@ -6,11 +6,12 @@ use Rattle.controller.specs.declared.State.{State}
 use Rattle.controller.specs.declared.Stepped.{Stepped}
 use Rattle.controller.specs.declared.Input.{Input}
 use Rattle.controller.specs.declared.Input.TheVariants.{Byte}
-use Rattle.controller.specs.declared.Answer.{Answer}
-use Rattle.controller.specs.declared.Answer.TheVariants.{Taken, OutOfRange, QueueFull, MotionFull, BufferShort}
+use Rattle.controller.specs.declared.Refusal.{Refusal}
+use Rattle.std.specs.Prelude.{Result, Ok, Err}
+use Rattle.controller.specs.declared.Refusal.TheVariants.{OutOfRange, QueueFull, MotionFull, BufferShort}
 use Rattle.controller.specs.State.{IsState, power_up}
 use Rattle.controller.specs.Host.{Due}
-use Rattle.controller.specs.Step.{IsInput, due, Did}
+use Rattle.controller.specs.Step.{IsInput, due, number, count_of, Did}
 
 -- what comes out: what a controller hands back, and the lent buffer afterwards
 pub record Outcome : Type 0 where
@@ -40,15 +41,15 @@ Meets c = (k : Intake) → Did k.state k.input k.lent (outcome c k).stepped (out
 
 -- "a controller that refuses everything"
 abbrev pub RefusesEverything : Controller → Type 0
-RefusesEverything c = (k : Intake) → (outcome c k).stepped.answer ≢ Taken
+RefusesEverything c = (k : Intake) → number (outcome c k).stepped.answer ≢ 0
 
 -- "one that sends 0xF0 at every input": wherever there is room for it, whatever it sends besides
 abbrev pub SendsF0 : Controller → Type 0
-SendsF0 c = (k : Intake) → 1 ≤ length k.lent → (1 ≤ (outcome c k).stepped.count) × (take 1 (outcome c k).buffer ≡ 0xF0 ∷ [])
+SendsF0 c = (k : Intake) → 1 ≤ length k.lent → (1 ≤ count_of (outcome c k).stepped.answer) × (take 1 (outcome c k).buffer ≡ 0xF0 ∷ [])
 
 -- "or swallows all input": nothing is ever sent, whatever it answers
 abbrev pub SwallowsAllInput : Controller → Type 0
-SwallowsAllInput c = (k : Intake) → (outcome c k).stepped.count ≡ 0
+SwallowsAllInput c = (k : Intake) → count_of (outcome c k).stepped.answer ≡ 0
 
 -- the states that a controller comes to from a state, by inputs with buffers of any length
 pub data Later (c : Controller) (s : State) : State → Type 0 where
@@ -57,7 +58,7 @@ pub data Later (c : Controller) (s : State) : State → Type 0 where
 
 -- it idles from a state on: no input sends anything, now or later
 abbrev pub IdlesFrom : Controller → State → Type 0
-IdlesFrom c s = (t : State) → Later c s t → (i : Input) → IsInput i → (lent : List ℕ) → AllBytes lent → (c t i lent).stepped.count ≡ 0
+IdlesFrom c s = (t : State) → Later c s t → (i : Input) → IsInput i → (lent : List ℕ) → AllBytes lent → count_of (c t i lent).stepped.answer ≡ 0
 
 -- "one that handles the first byte of a session and idles afterwards": there is a first byte, with some buffer, after which it does
 pub record HandlesFirstByteOnly (c : Controller) : Type 0 where
@@ -68,17 +69,17 @@ pub record HandlesFirstByteOnly (c : Controller) : Type 0 where
   pub idles : IdlesFrom c (c power_up (Byte first) lent).stepped.state
 
 -- the count by its answer: "it is the length of the bytes due", and a refusal "reports 0 bytes written"
-abbrev pub count_due : Answer → Due → ℕ
-count_due Taken d = length d.written
-count_due OutOfRange d = 0
-count_due QueueFull d = 0
-count_due MotionFull d = 0
-count_due BufferShort d = 0
+abbrev pub count_due : Result ℕ Refusal → Due → ℕ
+count_due (Ok count) d = length d.written
+count_due (Err OutOfRange) d = 0
+count_due (Err QueueFull) d = 0
+count_due (Err MotionFull) d = 0
+count_due (Err BufferShort) d = 0
 
 -- "one with an invented byte count": somewhere it is another
 pub record InventsCount (c : Controller) : Type 0 where
   pub intake : Intake
-  pub another : (outcome c intake).stepped.count ≢ count_due (outcome c intake).stepped.answer (due intake.state intake.input)
+  pub another : count_of (outcome c intake).stepped.answer ≢ count_due (outcome c intake).stepped.answer (due intake.state intake.input)
 
 -- a controller that is none of the five
 pub record NoneOfThese (c : Controller) : Type 0 where

@@ -17,8 +17,8 @@ use Rattle.mouse.specs.Mouse as Mouse
 use Rattle.sticks.specs.Sticks.{IsSticks, OneSticks, most_samples}
 use Rattle.keys.specs.declared.Keys.{Keys}
 use Rattle.keys.specs.Keys.{IsKeys}
-use Rattle.controller.specs.declared.Queue.{Queue}
-use Rattle.controller.specs.State.{IsState, IsQueue, OneQueue}
+use Rattle.output.specs.declared.Run.{Run}
+use Rattle.controller.specs.State.{IsState, IsQueue, OneQueue, queue_room}
 use Rattle.fields.specs.Ranges.{at, gap_free, loading, most_bits, third, pending, ranges, held_most, all_fit}
 use Rattle.fields.specs.Numbers.{mouse_numbers, stick_numbers}
 use Rattle.fields.specs.States.{held_from, settings_from, pointer_from, sticks_from, clock_from, command_from, state_from}
@@ -125,7 +125,7 @@ module _ (a : List ℕ) (h : all_fit a ≡ true) where
   unfolding pointer_from
   pointer_one = record { x = held_one (at 26 a); y = held_one (at 27 a) }
 
-  module _ (l : length a ≡ 55) (m : Keys) (q : Queue) where
+  module _ (l : length a ≡ 55) (m : Keys) (q : Run queue_room) where
     held_as : held_most a ≡ Mouse.held_most (eqb (at 23 a) 1) (settings_from a)
     unfolding state_from
     held_as = ap held_most (sym (there a h l m q)) ∙ held_same (state_from a m q)

@@ -15,7 +15,8 @@ use Rattle.protocol.specs.declared.Role.{Role}
 use Rattle.mouse.specs.Reports.{latch_byte}
 use Rattle.sticks.specs.Sticks.{byte}
 use Rattle.keys.specs.declared.Keys.{Keys}
-use Rattle.controller.specs.declared.Queue.{Queue}
+use Rattle.controller.specs.State.{queue_room}
+use Rattle.output.specs.declared.Run.{Run}
 use Rattle.fields.specs.Ranges.{at, high, ranges, all_fit}
 use Rattle.fields.specs.Numbers.{mouse_numbers, stick_numbers, role_number, settings_numbers, pointer_numbers, sticks_numbers, clock_numbers, command_numbers, numbers, held_number}
 use Rattle.fields.specs.States.{mouse_from, stick_from, role_from, settings_from, held_from, latches_from, pointer_from, stick_of, sticks_from, clock_from, command_from, state_from}
@@ -123,9 +124,9 @@ module _ (a : List ℕ) (h : all_fit a ≡ true) where
   unfolding command_numbers command_from
   command_there = refl
 
-  fields_there : (m : Keys) (q : Queue) → numbers (state_from a m q) ≡ listed 55 0 a
+  fields_there : (m : Keys) (q : Run queue_room) → numbers (state_from a m q) ≡ listed 55 0 a
   unfolding numbers state_from
   fields_there m q = rw (settings_there, pointer_there, sticks_there, clock_there, command_there)
 
-  pub there : length a ≡ 55 → (m : Keys) (q : Queue) → numbers (state_from a m q) ≡ a
+  pub there : length a ≡ 55 → (m : Keys) (q : Run queue_room) → numbers (state_from a m q) ≡ a
   there l m q = fields_there m q ∙ listed_all 55 a l

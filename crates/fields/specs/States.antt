@@ -16,7 +16,8 @@ use Rattle.sticks.specs.declared.Stick.{Stick}
 use Rattle.sticks.specs.declared.Sticks.{Sticks}
 use Rattle.sticks.specs.Sticks.{below_trigger}
 use Rattle.keys.specs.declared.Keys.{Keys}
-use Rattle.controller.specs.declared.Queue.{Queue}
+use Rattle.controller.specs.State.{queue_room}
+use Rattle.output.specs.declared.Run.{Run}
 use Rattle.controller.specs.declared.State.{State}
 use Rattle.fields.specs.Ranges.{at, held_zero}
 
@@ -107,7 +108,7 @@ command_from a = record {
 }
 
 -- all fields, the map and the queue
-unfoldable pub state_from : List ℕ → Keys → Queue → State
+unfoldable pub state_from : List ℕ → Keys → Run queue_room → State
 state_from a m q = record {
   settings = settings_from a;
   command = command_from a;

@@ -4,10 +4,12 @@
 
 mod build;
 mod list;
+mod place;
 mod range;
 
 pub use build::state_from;
 pub use list::numbers;
+pub use place::{HELD_X, HELD_Y, PAUSED};
 pub use range::all_fit;
 
 // How many fields are numbers.

@@ -1,9 +1,7 @@
-// A state as its numbers, in the order of document 01's state list.
+// A state as its numbers, in the order of docs/SAVED.md.
 ghost use Rattle.std.specs.Prelude.{◌≡◌, ◌≤◌};
-ghost use Rattle.output.specs.Packets.{bit};
 ghost use Rattle.motion.specs.Motion.{size};
 ghost use Rattle.mouse.specs.Mouse.{WithinLimit, held_limit};
-ghost use Rattle.mouse.specs.Reports.{latch_byte};
 ghost use Rattle.sticks.specs.Sticks.{byte};
 ghost use Rattle.controller.specs.State.{IsState};
 ghost use Rattle.fields.specs.Numbers.{mouse_numbers, stick_numbers, role_number, settings_numbers, held_number, pointer_numbers, sticks_numbers, clock_numbers, command_numbers, numbers};
@@ -13,19 +11,9 @@ use crate::range::TRIGGER;
 use clock::Clock;
 use controller::State;
 use motion::Motion;
-use mouse::{Latches, Mouse};
+use mouse::Mouse;
 use protocol::{Command, MouseMode, Role, Settings, StickMode};
 use sticks::{Stick, Sticks};
-
-// Off 0, on 1.
-fn bit(b: bool) -> u16
-    ensures { result ≡ bit b }
-{
-    if b {
-        return 1;
-    }
-    0
-}
 
 // Fields 1 to 5.
 fn mouse_numbers(m: MouseMode) -> [u16; 5]
@@ -60,6 +48,7 @@ fn stick_numbers(m: StickMode) -> [u16; 8]
     }
 }
 
+// The number is the saved line's and not the role's own, so it is no From.
 fn role_number(r: Role) -> u16
     ensures { result ≡ role_number r }
 {
@@ -70,18 +59,12 @@ fn role_number(r: Role) -> u16
 }
 
 // Fields 1 to 22.
+#[tactic(auto, using(crate::proofs::Bounding::bool_bit), unfolding(crate::specs::Numbers::settings_numbers))]
 fn settings_numbers(s: Settings) -> [u16; 22]
     ensures { result ≡ settings_numbers s }
 {
-    let mode = s.mouse;
-    let m = mouse_numbers(mode);
-    let stick = s.stick;
-    let k = stick_numbers(stick);
-    let role = s.port0;
-    let bottom = bit(s.bottom);
-    let mouseon = bit(s.mouseon);
-    let stickson = bit(s.stickson);
-    let port0 = role_number(role);
+    let m = mouse_numbers(s.mouse);
+    let k = stick_numbers(s.stick);
     [
         m[0],
         m[1],
@@ -93,8 +76,8 @@ fn settings_numbers(s: Settings) -> [u16; 22]
         s.threshold.y as u16,
         s.scale.x as u16,
         s.scale.y as u16,
-        bottom,
-        mouseon,
+        u16::from(s.bottom),
+        u16::from(s.mouseon),
         k[0],
         k[1],
         k[2],
@@ -103,8 +86,8 @@ fn settings_numbers(s: Settings) -> [u16; 22]
         k[5],
         k[6],
         k[7],
-        stickson,
-        port0,
+        u16::from(s.stickson),
+        role_number(s.port0),
     ]
 }
 
@@ -116,46 +99,39 @@ fn held_number(m: Motion) -> u16
     State::HELD_LIMIT + m.plus - m.minus
 }
 
-// The latches as a report tells them.
-fn latch_byte(l: Latches) -> u16
-    ensures { result ≡ latch_byte l }
-{
-    bit(l.rightdown) + 2 * bit(l.rightup) + 4 * bit(l.leftdown) + 8 * bit(l.leftup)
-}
-
 // Fields 23 to 30.
+#[tactic(auto, unfolding(crate::specs::Numbers::pointer_numbers))]
 fn pointer_numbers(paused: bool, m: Mouse) -> [u16; 8]
     requires { WithinLimit m }
     ensures { result ≡ pointer_numbers paused m }
 {
-    let latches = m.latches;
-    let pause = bit(paused);
-    let x = held_number(m.held.x);
-    let y = held_number(m.held.y);
-    let left = bit(m.left);
-    let right = bit(m.right);
-    let latched = latch_byte(latches);
-    [pause, m.place.x, m.place.y, x, y, left, right, latched]
+    [
+        u16::from(paused),
+        m.place.x,
+        m.place.y,
+        held_number(m.held.x),
+        held_number(m.held.y),
+        u16::from(m.left),
+        u16::from(m.right),
+        u16::from(m.latches.byte()),
+    ]
 }
 
-// A stick as a report tells it.
+// A stick as a report tells it. This is said of every position, and `Stick::byte` only of one that leaves the trigger its bit.
 fn stick_byte(k: Stick) -> u16
     ensures { result ≡ byte k }
 {
-    TRIGGER * bit(k.trigger) + k.position as u16
+    TRIGGER * u16::from(k.trigger) + k.position as u16
 }
 
 // Fields 31 to 39.
+#[tactic(auto, unfolding(crate::specs::Numbers::sticks_numbers))]
 fn sticks_numbers(s: Sticks) -> [u16; 9]
     ensures { result ≡ sticks_numbers s }
 {
-    let zero = s.zero;
-    let one = s.one;
-    let b0 = stick_byte(zero);
-    let b1 = stick_byte(one);
     [
-        b0,
-        b1,
+        stick_byte(s.zero),
+        stick_byte(s.one),
         s.x.age,
         s.x.wait,
         s.y.age,
@@ -167,6 +143,7 @@ fn sticks_numbers(s: Sticks) -> [u16; 9]
 }
 
 // Fields 40 to 46.
+#[tactic(auto, unfolding(crate::specs::Numbers::clock_numbers))]
 fn clock_numbers(c: Clock) -> [u16; 7]
     ensures { result ≡ clock_numbers c }
 {
@@ -182,19 +159,19 @@ fn clock_numbers(c: Clock) -> [u16; 7]
 }
 
 // Fields 47 to 55.
+#[tactic(auto, unfolding(crate::specs::Numbers::command_numbers))]
 fn command_numbers(c: Command) -> [u16; 9]
     ensures { result ≡ command_numbers c }
 {
-    let p = c.params;
     [
         c.code as u16,
         c.come as u16,
-        p[0] as u16,
-        p[1] as u16,
-        p[2] as u16,
-        p[3] as u16,
-        p[4] as u16,
-        p[5] as u16,
+        c.params[0] as u16,
+        c.params[1] as u16,
+        c.params[2] as u16,
+        c.params[3] as u16,
+        c.params[4] as u16,
+        c.params[5] as u16,
         c.pending as u16,
     ]
 }
@@ -204,16 +181,12 @@ pub fn numbers(s: State) -> [u16; COUNT]
     requires { IsState s }
     ensures { result ≡ numbers s }
 {
-    let settings = s.settings;
-    let mouse = s.mouse;
-    let sticks = s.sticks;
-    let clock = s.clock;
-    let command = s.command;
-    let a = settings_numbers(settings);
-    let b = pointer_numbers(s.paused, mouse);
-    let c = sticks_numbers(sticks);
-    let d = clock_numbers(clock);
-    let e = command_numbers(command);
+    let a = settings_numbers(s.settings);
+    let b = pointer_numbers(s.paused, s.mouse);
+    let c = sticks_numbers(s.sticks);
+    let d = clock_numbers(s.clock);
+    let e = command_numbers(s.command);
+    // Listed one by one: tried with copy_from_slice, the proof did not close.
     [
         a[0], a[1], a[2], a[3], a[4], a[5], a[6], a[7], a[8], a[9], a[10], a[11], a[12], a[13],
         a[14], a[15], a[16], a[17], a[18], a[19], a[20], a[21], b[0], b[1], b[2], b[3], b[4], b[5],

@@ -11,7 +11,7 @@ ghost use Rattle.keys.specs.Keys.{no_keys, struck, held, breaks, break_packets, 
 use output::ScanCode;
 
 // The lowest bit of `low` is key 1, the lowest of `high` the key after the last of `low`.
-#[derive(Clone, Copy)]
+#[derive(Clone, Copy, Debug, PartialEq, Eq)]
 pub struct Keys {
     pub low: u64,
     pub high: u64,
@@ -21,14 +21,13 @@ pub struct Keys {
 const LOW_KEYS: u8 = 64;
 
 // A word with one of its bits set or cleared.
+#[tactic(auto, using(crate::proofs::Words::power_is, crate::proofs::Words::or_put))]
 fn put(word: u64, bit: u32, on: bool) -> u64
     requires { bit < 64 }
     ensures { result ≡ put bit on word }
 {
-    if on {
-        return word | (1 << bit);
-    }
-    word & !(1 << bit)
+    let mask = 1 << bit;
+    if on { word | mask } else { word & !mask }
 }
 
 // The break codes of the keys in a word, lowest first; its lowest bit is the key `first`.
@@ -39,8 +38,9 @@ fn write_word(word: u64, first: u8, out: &mut [u8]) -> usize
 {
     let mut rest = word;
     let mut at = 0;
+    // No `for`: the trailing zeros say where the next key is.
     while rest != 0 {
-        let lowest = u64::trailing_zeros(rest);
+        let lowest = rest.trailing_zeros();
         out[at] = output::code_sent(first + lowest as u8, false);
         rest = put(rest, lowest, false);
         at += 1;
@@ -56,6 +56,7 @@ impl Keys {
     }
 
     // After a press or a release of a key.
+    #[tactic(auto, unfolding(crate::specs::Keys::struck))]
     pub fn struck(self, code: u8, down: bool) -> Self
         requires { (first_key ≤ code) × (code ≤ last_key) }
         ensures { result ≡ struck code down self }
@@ -63,24 +64,26 @@ impl Keys {
         if code <= LOW_KEYS {
             return Keys {
                 low: put(self.low, (code - 1) as u32, down),
-                high: self.high,
+                ..self
             };
         }
         Keys {
-            low: self.low,
             high: put(self.high, (code - LOW_KEYS - 1) as u32, down),
+            ..self
         }
     }
 
     // How many keys are down: the ones in both words.
+    #[tactic(auto, using(crate::proofs::Maps::held_is))]
     pub fn count(self) -> u8
         requires { IsKeys self }
         ensures { result ≡ held self }
     {
-        (u64::count_ones(self.low) + u64::count_ones(self.high)) as u8
+        (self.low.count_ones() + self.high.count_ones()) as u8
     }
 
     // The break code of each key that is down, lowest first.
+    #[tactic(auto, using(crate::proofs::Writing::low_room, crate::proofs::Writing::rest_room))]
     pub fn write_breaks(self, out: &mut [u8]) -> usize
         requires keys { IsKeys self }
         requires self_in_bounds { held self ≤ length out.old }

@@ -8,12 +8,12 @@ use Rattle.text.specs.Output.{text, decimal_in, hex_figure, hex_bytes, shown}
 use Rattle.receiver.specs.Cut.{start, cut}
 use Rattle.receiver.specs.Pieces.{pieces_from, left_from}
 use Rattle.session.specs.Session.{ended_from, rest_from}
-use Rattle.listing.specs.Input.{same, is_hex, spelt, field_bytes, is_number, answer_bytes, fields_bytes, line_of}
+use Rattle.listing.specs.Input.{is_hex, spelt, field_bytes, is_number, answer_bytes, fields_bytes, line_of}
 use Rattle.listing.specs.Rows.{row, rows, bad_row, left_row}
 use Rattle.listing.specs.Listing.{printed, waiting_after, listing, whole_listing}
 
 rules : Unit {0}
-unfolding is_make is_break hex_digit until decimal_in hex_figure hex_bytes shown start cut pieces_from left_from ended_from rest_from same is_hex spelt field_bytes is_number answer_bytes fields_bytes line_of row rows bad_row left_row printed waiting_after listing whole_listing
+unfolding is_make is_break hex_digit until decimal_in hex_figure hex_bytes shown start cut pieces_from left_from ended_from rest_from is_hex spelt field_bytes is_number answer_bytes fields_bytes line_of row rows bad_row left_row printed waiting_after listing whole_listing
 rules = tt
 
 -- of the text program's output the last fields, and its header is passed over

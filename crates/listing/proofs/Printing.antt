@@ -1,37 +1,40 @@
 -- How a row is written: its parts, each stage behind the one before.
 -- Assumes nothing.
 use Prim.Native.Char.{code}
-use Prim.Native.Nat.{ℕ, zero, suc, ◌+◌, ◌*◌, ◌≤◌}
+use Prim.Native.Nat.{ℕ, ◌+◌, ◌*◌, ◌≤◌}
 use native.Mathlib.Omega.{arith}
 use mathlib.Core.Path.{◌≡◌, refl, sym, ◌∙◌, subst}
 use mathlib.Core.List.{List, [], ◌∷◌, ◌++◌, append_assoc}
+use lib.Seq.{length-take-le}
 use lib.ListN.{length, take, set}
-use lib.Seq.{take-length}
 use Rattle.output.specs.Writing.{Wrote}
 use Rattle.output.proofs.Writing.{none, whole, stored_after}
 use Rattle.text.specs.Line.{tab}
 use Rattle.text.specs.Output.{text, decimal, shown}
 use Rattle.text.proofs.Shown.{shown_one, shown_two}
-use Rattle.receiver.specs.declared.Kind.{Kind}
-use Rattle.listing.specs.Rows.{row, packet_row, bad_row, left_row}
+use Rattle.listing.specs.Rows.{row, bad_row, left_row}
 
 -- how long the bytes of a row can be: two digits for each, or the minus
-pub shown_room : (n : ℕ) (bytes : List ℕ) → n ≤ length bytes → length (shown (take n bytes)) ≤ 2 * n + 1
-shown_room zero bytes h = omega (arith, shown_one 0 bytes refl)
-shown_room (suc n) bytes h = omega (arith, shown_two (suc n) bytes (λ e. omega arith) h)
+pub shown_room : (bytes : List ℕ) → length (shown bytes) ≤ 2 * length bytes + 1
+shown_room [] = omega (arith, shown_one [] refl)
+shown_room (b ∷ bytes) = omega (arith, shown_two (b ∷ bytes) (λ e. omega arith))
+
+-- what is left for a row behind its name, and behind its bytes
+module _ (name bytes : List ℕ) {l X : List ℕ} {n : ℕ} (w : Wrote name n l X) (h : length name + 2 * length bytes + 3 ≤ length l) where
+  pub name_room : n + 2 * length bytes + 3 ≤ length l
+  name_room = omega (arith, h, w.count)
+
+  pub bytes_room : {m : ℕ} → m ≡ length (shown bytes) → n + 1 + m + 1 ≤ length l
+  bytes_room e = omega (arith, name_room, e, shown_room bytes)
 
 -- its name and the tab
-pub row_start : (name : List ℕ) {l X : List ℕ} {n : ℕ} → Wrote (take (length name) name) n l X → n + 1 ≤ length l → Wrote (name ++ (tab ∷ [])) (n + 1) l (set X n tab)
-row_start name w h = stored_after tab (whole (length name) name refl w) h
+pub row_start : (name : List ℕ) {l X : List ℕ} {n : ℕ} → Wrote name n l X → n + 1 ≤ length l → Wrote (name ++ (tab ∷ [])) (n + 1) l (set X n tab)
+row_start name w h = stored_after tab w h
 
 -- the line feed
 pub row_end : (name bytes : List ℕ) {l X : List ℕ} {n : ℕ} → Wrote ((name ++ (tab ∷ [])) ++ shown bytes) n l X → n + 1 ≤ length l → Wrote (row name bytes) (n + 1) l (set X n (code "\n"))
 unfolding row
 row_end name bytes w h = stored_after (code "\n") w h
-
--- the row of a packet whose kind is known
-pub named : {k m : Kind} (bytes : List ℕ) {l X : List ℕ} {n : ℕ} → k ≡ m → Wrote (packet_row m bytes) n l X → Wrote (packet_row k bytes) n l X
-named bytes {l} {X} {n} e w = subst (λ (k : Kind). Wrote (packet_row k bytes) n l X) (sym e) w
 
 -- the row of a bad line: behind its number the tab, the minus and the line feed
 pub bad_end : (number : ℕ) {l X : List ℕ} {n : ℕ} → Wrote ((text "bad line " ++ decimal number) ++ (tab ∷ code "-" ∷ code "\n" ∷ [])) n l X → Wrote (bad_row number) n l X
@@ -46,7 +49,7 @@ unfolding left_row
 left_none [] l e = none l
 left_none (b ∷ bytes) l e = absurd (omega arith)
 
-pub left_some : (bytes : List ℕ) {l X : List ℕ} {n : ℕ} → (length bytes ≡ 0 → ⊥) → Wrote (row (text "too few") (take (length bytes) bytes)) n l X → Wrote (left_row bytes) n l X
+pub left_some : (bytes : List ℕ) {l X : List ℕ} {n : ℕ} → (length bytes ≡ 0 → ⊥) → Wrote (row (text "too few") bytes) n l X → Wrote (left_row bytes) n l X
 unfolding left_row
 left_some [] e w = absurd (e refl)
-left_some (b ∷ bytes) {l} {X} {n} e w = subst (λ (t : List ℕ). Wrote (row (text "too few") t) n l X) (take-length (b ∷ bytes)) w
+left_some (b ∷ bytes) e w = w

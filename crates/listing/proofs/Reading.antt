@@ -1,128 +1,91 @@
--- Laws for reading a line from its front: two texts that are the same, decimal digits, and hexadecimal ones by pairs.
+-- Laws for reading a line from its front: decimal digits, hexadecimal ones by pairs, and what the first tab parts.
 -- Assumes nothing.
 use Prim.Native.Char.{code}
-use Prim.Native.Nat.{ℕ, zero, suc, ◌+◌, ◌-◌, ◌*◌, ◌≤◌, ◌<◌}
+use Prim.Native.Nat.{ℕ, suc, ◌+◌, ◌-◌, ◌*◌, ◌%◌, ◌≤◌, ◌<◌}
 use native.Mathlib.Numerals.{add-one}
 use native.Mathlib.Omega.{arith}
 use mathlib.Core.Path.{◌≡◌, refl, sym, ap, ap₂, ◌∙◌}
-use mathlib.Core.Bool.{Bool, true, false, ◌&&◌}
+use mathlib.Core.Bool.{Bool, true, false, cond, not, ◌&&◌}
 use mathlib.Core.List.{List, [], ◌∷◌, ◌++◌, append_assoc, append-nil}
+use Rattle.std.specs.Prelude.{Option, Some, None, is_some, IfSome, IsSome}
+use Rattle.std.specs.Option.{unwrap_or}
+use Rattle.std.specs.List.{list_all, position_or_len}
 use lib.Dec.{eqb, leb, ltb}
-use lib.ListN.{length, drop, get_or, set, length-set, length-drop, drop_of_length-le}
-use lib.Seq.{drop-cons}
-use borrow.Author.Tests.{lt-leb, le-leb, lt-ltb, le-ltb, ltb-true, eq-eqb, ne_eqb}
+use lib.ListN.{length, take, drop, get_or, set, length-set, length-drop}
+use lib.Seq.{drop-cons, take_all}
+use borrow.Author.Tests.{lt-ltb, le-ltb, ltb-true, le-leb, eq-eqb, ne_eqb}
 use Rattle.output.specs.Writing.{over, Wrote}
 use Rattle.output.proofs.Cases.{and_true}
 use Rattle.output.proofs.Writing.{none, stored_after}
-use Rattle.text.specs.Line.{hex_digit, digits}
-use Rattle.listing.specs.Input.{same, is_number, is_hex, spelt}
-
--- ---- two texts
-
--- they have been the same up to i
-pub record SameSoFar (a b : List ℕ) (i : ℕ) : Type 0 where
-  pub within : i ≤ length a
-  pub as_far : same (drop i a) (drop i b) ≡ same a b
-
-pub same_start : (a b : List ℕ) → SameSoFar a b 0
-same_start a b = record { within = omega arith; as_far = refl }
-
-pub other_length : (a b : List ℕ) → (length a ≡ length b → ⊥) → false ≡ same a b
-unfolding same
-other_length [] [] n = absurd (n refl)
-other_length [] (y ∷ b) n = refl
-other_length (x ∷ a) [] n = refl
-other_length (x ∷ a) (y ∷ b) n = at (eqb x y) (other_length a b (λ e. n (ap suc e)))
-  where
-    at : (t : Bool) → false ≡ same a b → false ≡ (t && same a b)
-    at true later = later
-    at false later = refl
-
-module _ {a b : List ℕ} {i : ℕ} (s : SameSoFar a b i) (long : length a ≡ length b) where
-  module _ (h : i < length a) where
-    here : (eqb (get_or a i 0) (get_or b i 0) && same (drop (suc i) a) (drop (suc i) b)) ≡ same a b
-    unfolding same
-    here = sym (ap₂ same (drop-cons a i 0 h) (drop-cons b i 0 (omega arith))) ∙ s.as_far
-
-    pub same_differs : (get_or a i 0 ≡ get_or b i 0 → ⊥) → false ≡ same a b
-    same_differs n = sym (ap (λ (t : Bool). t && same (drop (suc i) a) (drop (suc i) b)) (ne_eqb (get_or a i 0) (get_or b i 0) n)) ∙ here
-
-    pub same_on : get_or a i 0 ≡ get_or b i 0 → SameSoFar a b (i + 1)
-    same_on e = record {
-      within = omega arith;
-      as_far =
-          ap (λ (k : ℕ). same (drop k a) (drop k b)) (add-one i)
-          ∙ sym (ap (λ (t : Bool). t && same (drop (suc i) a) (drop (suc i) b)) (eq-eqb (get_or a i 0) (get_or b i 0) e))
-          ∙ here;
-    }
-
-  pub same_end : length a ≤ i → true ≡ same a b
-  unfolding same
-  same_end h =
-      let past : length b ≤ i = omega arith in
-      sym (ap₂ same (drop_of_length-le a h) (drop_of_length-le b past)) ∙ s.as_far
+use Rattle.text.specs.Line.{tab, hex_digit, digits}
+use Rattle.text.specs.Fronts.{until, first}
+use Rattle.listing.specs.Input.{is_number, is_hex, spelt, has_tab, behind}
 
 -- ---- decimal digits
 
--- they have been digits up to i
-pub record DigitsSoFar (l : List ℕ) (i : ℕ) : Type 0 where
-  pub within : i ≤ length l
-  pub some : 1 ≤ length l
-  pub as_far : digits (drop i l) ≡ is_number l
+abbrev pub is_digit : ℕ → Bool
+is_digit b = leb (code "0") b && leb b (code "9")
 
-pub digits_start : (l : List ℕ) → (length l ≡ 0 → ⊥) → DigitsSoFar l 0
+pub all_digits : (l : List ℕ) → list_all is_digit l ≡ digits l
+all_digits [] = refl
+all_digits (b ∷ l) = ap (λ (t : Bool). is_digit b && t) (all_digits l)
+
+pub some_digits : (l : List ℕ) {r : Bool} → (length l ≡ 0 → ⊥) → r ≡ list_all is_digit l → r ≡ is_number l
 unfolding is_number
-digits_start l n = record {
-  within = omega arith;
-  some = omega arith;
-  as_far = sym (ap (λ (t : Bool). t && digits l) (le-leb 1 (length l) (omega arith)));
-}
+some_digits [] n e = absurd (n refl)
+some_digits (b ∷ l) n e = e ∙ all_digits (b ∷ l) ∙ sym (ap (λ (t : Bool). t && digits (b ∷ l)) (le-leb 1 (length (b ∷ l)) (omega arith)))
 
 pub no_digits : (l : List ℕ) → length l ≡ 0 → false ≡ is_number l
 unfolding is_number
-no_digits l e = sym (ap (λ (t : Bool). t && digits l) (lt-leb 1 (length l) (omega arith)))
-
-module _ {l : List ℕ} {i : ℕ} (s : DigitsSoFar l i) where
-  module _ (h : i < length l) where
-    digit : ℕ
-    digit = get_or l i 0
-
-    digits_here : ((leb (code "0") digit && leb digit (code "9")) && digits (drop (suc i) l)) ≡ is_number l
-    unfolding digit
-    digits_here = sym (ap digits (drop-cons l i 0 h)) ∙ s.as_far
-
-    pub digits_low : get_or l i 0 < code "0" → false ≡ is_number l
-    unfolding digit
-    digits_low n = sym (ap (λ (t : Bool). (t && leb digit (code "9")) && digits (drop (suc i) l)) (lt-leb (code "0") digit n)) ∙ digits_here
-
-    pub digits_high : code "0" ≤ get_or l i 0 → code "9" < get_or l i 0 → false ≡ is_number l
-    unfolding digit
-    digits_high m n =
-        sym (ap₂ (λ (t u : Bool). (t && u) && digits (drop (suc i) l)) (le-leb (code "0") digit m) (lt-leb digit (code "9") n)) ∙ digits_here
-
-    pub digits_on : code "0" ≤ get_or l i 0 → get_or l i 0 ≤ code "9" → DigitsSoFar l (i + 1)
-    unfolding digit
-    digits_on m n = record {
-      within = omega arith;
-      some = s.some;
-      as_far =
-          ap (λ (k : ℕ). digits (drop k l)) (add-one i)
-          ∙ sym (ap₂ (λ (t u : Bool). (t && u) && digits (drop (suc i) l)) (le-leb (code "0") digit m) (le-leb digit (code "9") n))
-          ∙ digits_here;
-    }
-
-  pub digits_end : length l ≤ i → true ≡ is_number l
-  digits_end h = sym (ap digits (drop_of_length-le l h)) ∙ s.as_far
+no_digits [] e = refl
+no_digits (b ∷ l) e = absurd (omega arith)
 
 -- ---- hexadecimal digits
 
--- they have been pairs of digits up to i
-pub record HexSoFar (l : List ℕ) (i : ℕ) : Type 0 where
-  pub within : i ≤ length l
-  pub as_far : is_hex (drop i l) ≡ is_hex l
+abbrev pub is_hex_digit : ℕ → Bool
+is_hex_digit b = ltb (hex_digit b) 16
 
-pub hex_start : (l : List ℕ) → HexSoFar l 0
-hex_start l = record { within = omega arith; as_far = refl }
+pub digit_is_some : (b : ℕ) (r : Option ℕ) → unwrap_or r 16 ≡ hex_digit b → IfSome r (λ d. d ≤ 15) → is_some r ≡ is_hex_digit b
+digit_is_some b None e h = sym (le-ltb (hex_digit b) 16 (omega arith))
+digit_is_some b (Some d) e h = sym (lt-ltb (hex_digit b) 16 (omega arith))
+
+-- the digit itself, where there is one
+pub digit_there : (r : Option ℕ) {h : ℕ} → unwrap_or r 16 ≡ h → h < 16 → IsSome r
+digit_there None e h = absurd (omega arith)
+digit_there (Some d) e h = refl
+
+pub digit_is : (r : Option ℕ) {h d : ℕ} → unwrap_or r 16 ≡ h → r ≡ Some d → d ≡ h
+digit_is r e f = sym (ap (λ (o : Option ℕ). unwrap_or o 16) f) ∙ e
+
+-- they are even in number, and each is a digit
+pub hex_by_digits : (l : List ℕ) → (eqb (length l % 2) 0 && list_all is_hex_digit l) ≡ is_hex l
+unfolding is_hex
+hex_by_digits [] = refl
+hex_by_digits (a ∷ []) = refl
+hex_by_digits (a ∷ b ∷ l) =
+    let even : suc (suc (length l)) % 2 ≡ length l % 2 = omega arith in
+    ap (λ (n : ℕ). eqb n 0 && (is_hex_digit a && (is_hex_digit b && list_all is_hex_digit l))) even
+    ∙ at (eqb (length l % 2) 0) (is_hex_digit a) (is_hex_digit b) (list_all is_hex_digit l)
+    ∙ ap (λ (t : Bool). (is_hex_digit a && is_hex_digit b) && t) (hex_by_digits l)
+  where
+    at : (t x y r : Bool) → (t && (x && (y && r))) ≡ ((x && y) && (t && r))
+    at true true true r = refl
+    at true true false r = refl
+    at true false y r = refl
+    at false true true r = refl
+    at false true false r = refl
+    at false false y r = refl
+
+module _ (l : List ℕ) where
+  pub even_digits : {r : Bool} → length l % 2 ≡ 0 → r ≡ list_all is_hex_digit l → r ≡ is_hex l
+  even_digits h e = e ∙ sym (ap (λ (t : Bool). t && list_all is_hex_digit l) (eq-eqb (length l % 2) 0 h)) ∙ hex_by_digits l
+
+  pub odd_digits : (length l % 2 ≡ 0 → ⊥) → eqb (length l % 2) 0 ≡ is_hex l
+  odd_digits h =
+      let odd = ne_eqb (length l % 2) 0 h in
+      odd ∙ sym (ap (λ (t : Bool). t && list_all is_hex_digit l) odd) ∙ hex_by_digits l
+
+-- ---- the bytes that they spell
 
 -- the next pair
 pair_at : (l : List ℕ) (i : ℕ) → i + 2 ≤ length l → drop i l ≡ get_or l i 0 ∷ get_or l (i + 1) 0 ∷ drop (i + 2) l
@@ -131,46 +94,6 @@ pair_at l i h =
     drop-cons l i 0 (omega arith)
     ∙ ap (λ (k : List ℕ). get_or l i 0 ∷ k) (drop-cons l (suc i) 0 (omega arith))
     ∙ ap₂ (λ (j k : ℕ). get_or l i 0 ∷ get_or l j 0 ∷ drop k l) (sym (add-one i)) two
-
-module _ {l : List ℕ} {i : ℕ} (s : HexSoFar l i) where
-  module _ (h : i + 2 ≤ length l) where
-    hex_here : ((ltb (hex_digit (get_or l i 0)) 16 && ltb (hex_digit (get_or l (i + 1) 0)) 16) && is_hex (drop (i + 2) l)) ≡ is_hex l
-    unfolding is_hex
-    hex_here = sym (ap is_hex (pair_at l i h)) ∙ s.as_far
-
-    pub hex_first : {d : ℕ} → d ≡ hex_digit (get_or l i 0) → 15 < d → false ≡ is_hex l
-    hex_first {d} e n =
-        sym (ap (λ (t : Bool). (t && ltb (hex_digit (get_or l (i + 1) 0)) 16) && is_hex (drop (i + 2) l)) (le-ltb (hex_digit (get_or l i 0)) 16 (omega arith))) ∙ hex_here
-
-    pub hex_second : {d f : ℕ} → d ≡ hex_digit (get_or l i 0) → d ≤ 15 → f ≡ hex_digit (get_or l (i + 1) 0) → 15 < f → false ≡ is_hex l
-    hex_second e m g n =
-        sym (ap₂ (λ (t u : Bool). (t && u) && is_hex (drop (i + 2) l)) (lt-ltb (hex_digit (get_or l i 0)) 16 (omega arith)) (le-ltb (hex_digit (get_or l (i + 1) 0)) 16 (omega arith)))
-        ∙ hex_here
-
-    pub hex_on : {d f : ℕ} → d ≡ hex_digit (get_or l i 0) → d ≤ 15 → f ≡ hex_digit (get_or l (i + 1) 0) → f ≤ 15 → HexSoFar l (i + 2)
-    hex_on e m g n = record {
-      within = omega arith;
-      as_far =
-          sym (ap₂ (λ (t u : Bool). (t && u) && is_hex (drop (i + 2) l)) (lt-ltb (hex_digit (get_or l i 0)) 16 (omega arith)) (lt-ltb (hex_digit (get_or l (i + 1) 0)) 16 (omega arith)))
-          ∙ hex_here;
-    }
-
-  -- less than a pair is left
-  pub hex_end : length l < i + 2 → eqb i (length l) ≡ is_hex l
-  unfolding is_hex
-  hex_end h = at (length l - i) refl
-    where
-      at : (k : ℕ) → length l - i ≡ k → eqb i (length l) ≡ is_hex l
-      at zero e =
-          let past : length l ≤ i = omega arith in
-          eq-eqb i (length l) (omega (arith, s.within)) ∙ sym (ap is_hex (drop_of_length-le l past)) ∙ s.as_far
-      at (suc k) e =
-          let past : length l ≤ suc i = omega arith in
-          ne_eqb i (length l) (λ z. omega arith)
-          ∙ sym (ap is_hex (drop-cons l i 0 (omega arith) ∙ ap (λ (r : List ℕ). get_or l i 0 ∷ r) (drop_of_length-le l past)))
-          ∙ s.as_far
-
--- ---- the bytes that they spell
 
 -- the first i bytes are spelt, and what follows are digits too
 pub record SpeltSoFar (l : List ℕ) (i : ℕ) (before after : List ℕ) : Type 0 where
@@ -235,3 +158,49 @@ module _ {l before X : List ℕ} {i : ℕ} (s : SpeltSoFar l i before X) where
       let none : spelt rest ≡ [] = short rest (omega (arith, length-drop (2 * i) l)) in
       let whole : s.front ≡ spelt l = sym (append-nil s.front) ∙ ap (λ (t : List ℕ). s.front ++ t) (sym none) ∙ s.all in
       record { count = sym e ∙ s.wrote.count ∙ ap length whole; buffer = s.wrote.buffer ∙ ap (λ (t : List ℕ). over t before) whole }
+
+-- ---- what the first tab parts
+
+pub tab_place : (l : List ℕ) → position_or_len (λ b. eqb b tab) l ≡ length (first l)
+unfolding until
+tab_place [] = refl
+tab_place (b ∷ l) = at (eqb b tab) (tab_place l)
+  where
+    at : (t : Bool) → position_or_len (λ b. eqb b tab) l ≡ length (first l) → cond (not t) (1 + position_or_len (λ b. eqb b tab) l) 0 ≡ length (cond t [] (b ∷ first l))
+    at true e = refl
+    at false e = omega arith
+
+first_taken : (l : List ℕ) → take (length (first l)) l ≡ first l
+unfolding until
+first_taken [] = refl
+first_taken (b ∷ l) = at (eqb b tab) (first_taken l)
+  where
+    at : (t : Bool) → take (length (first l)) l ≡ first l → take (length (cond t [] (b ∷ first l))) (b ∷ l) ≡ cond t [] (b ∷ first l)
+    at true e = refl
+    at false e = ap (λ (k : List ℕ). b ∷ k) e
+
+-- where the first tab stands, as a search for it answers
+module _ (l : List ℕ) {r : Option ℕ} (e : r ≡ cond (ltb (position_or_len (λ b. eqb b tab) l) (length l)) (Some (position_or_len (λ b. eqb b tab) l)) None) where
+  place : r ≡ cond (has_tab l) (Some (length (first l))) None
+  place = e ∙ ap (λ (n : ℕ). cond (ltb n (length l)) (Some n) None) (tab_place l)
+
+  pub no_tab : r ≡ None → has_tab l ≡ false
+  no_tab n = at (has_tab l) (sym n ∙ place)
+    where
+      at : (t : Bool) → None ≡ cond t (Some (length (first l))) None → t ≡ false
+      at true n = absurd cc
+      at false n = refl
+
+  pub is_tab : {i : ℕ} → r ≡ Some i → (has_tab l ≡ true) × (i ≡ length (first l))
+  is_tab {i} n = at (has_tab l) (sym n ∙ place)
+    where
+      at : (t : Bool) → Some i ≡ cond t (Some (length (first l))) None → (t ≡ true) × (i ≡ length (first l))
+      at true n = (refl, cc)
+      at false n = absurd cc
+
+  pub parted : {i : ℕ} → r ≡ Some i → (has_tab l ≡ true) × (take i l ≡ first l) × (take (length l - (i + 1)) (drop (i + 1) l) ≡ behind l)
+  parted {i} n =
+      let t = is_tab n in
+      let within = ltb-true (length (first l)) (length l) t.0 in
+      let next : i + 1 ≡ suc (length (first l)) = omega arith in
+      (t.0, ap (λ (k : ℕ). take k l) t.1 ∙ first_taken l, take_all (length l - (i + 1)) (drop (i + 1) l) (omega (arith, length-drop (i + 1) l)) ∙ ap (λ (k : ℕ). drop k l) next)

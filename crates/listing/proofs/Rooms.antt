@@ -21,7 +21,7 @@ use Rattle.listing.specs.Listing.{most_left, most_row}
 use Rattle.listing.proofs.Turns.{rows_append}
 
 -- the longest name has 19 letters
-name_most : (k : Kind) → length (name_of k) ≤ 19
+pub name_most : (k : Kind) → length (name_of k) ≤ 19
 name_most Make = omega arith
 name_most Break = omega arith
 name_most VersionOrBreak = omega arith

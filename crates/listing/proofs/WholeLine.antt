@@ -5,6 +5,7 @@ use native.Mathlib.Omega.{arith}
 use mathlib.Core.Path.{◌≡◌, refl, sym, ap, ◌∙◌, subst}
 use mathlib.Core.Logic.{◌⊎◌, inl, inr}
 use mathlib.Core.List.{List, [], ◌++◌, append-nil}
+use Rattle.std.specs.Prelude.{Option, Some, None}
 use lib.ListN.{length, take, drop, length-take, length-drop, take-append-drop}
 use lib.Seq.{length-take-le, take_all, take_at}
 use Rattle.output.specs.Writing.{over, Wrote}
@@ -15,8 +16,6 @@ use Rattle.receiver.specs.Pieces.{Piece, pieces, left}
 use Rattle.receiver.specs.Promises.{empty}
 use Rattle.receiver.proofs.Firsts.{is_cut, cut_says}
 use Rattle.receiver.proofs.Pieces.{cut_in_turn, in_parts, left_few}
-use Rattle.listing.specs.declared.input.LineRead.{LineRead}
-use Rattle.listing.specs.declared.input.LineRead.TheVariants.{Good, BadLine}
 use Rattle.listing.specs.declared.rows.Rows.{Rows}
 use Rattle.listing.specs.Input.{Given, gives, bad, bytes_given, told, ReadsBytes}
 use Rattle.listing.specs.Rows.{rows, bad_row, row_room}
@@ -37,11 +36,11 @@ unfolding over
 starts {a} {l} {X} {n} w = ap (take n) w.buffer ∙ take_at a (drop (length a) l) n (sym w.count)
 
 -- what a line that was read gives
-given : (g : Given) (n : ℕ) → told g ≡ Good n → (g ≡ gives (bytes_given g)) × (n ≡ length (bytes_given g))
+given : (g : Given) (n : ℕ) → told g ≡ Some n → (g ≡ gives (bytes_given g)) × (n ≡ length (bytes_given g))
 given (gives bs) n e = (refl, cc)
 given bad n e = let z : ◌≡◌ {A = ℕ} 0 1 = cc in absurd (omega arith)
 
-given_bad : (g : Given) → told g ≡ BadLine → g ≡ bad
+given_bad : (g : Given) → told g ≡ None → g ≡ bad
 given_bad (gives bs) e = let z : ◌≡◌ {A = ℕ} 0 1 = cc in absurd (omega arith)
 given_bad bad e = refl
 
@@ -50,11 +49,11 @@ pub few_waits : (w : ℕ) (B : List ℕ) → w ≤ length B → cut (take w B) �
 few_waits w B h e = omega (arith, few_most (cut_says e), length-take-le w B h)
 
 -- the bytes of a line come behind those that wait
-module _ (B : List ℕ) (w : ℕ) {Y : List ℕ} {n : ℕ} {g : Given} {r : LineRead}
+module _ (B : List ℕ) (w : ℕ) {Y : List ℕ} {n : ℕ} {g : Given} {r : Option ℕ}
     (h : w ≤ length B)
     (k : ReadsBytes g r (take (length B - w) (drop w B)) Y)
     (same : length Y ≡ length (take (length B - w) (drop w B)))
-    (e : r ≡ Good n) where
+    (e : r ≡ Some n) where
   is_given : (g ≡ gives (bytes_given g)) × (n ≡ length (bytes_given g))
   is_given = given g n (sym k.result ∙ e)
 
@@ -124,8 +123,8 @@ module _ (B : List ℕ) (w : ℕ) {Y : List ℕ} {n : ℕ} {g : Given} {r : Line
         })
 
 -- a bad line: its row, and what waits stays
-pub line_refused : (B : List ℕ) (w : ℕ) {g : Given} {r : LineRead} {l m Z out O : List ℕ} {number count : ℕ} → w ≤ length B → cut (take w B) ≡ TooFew →
-    ReadsBytes g r l m → r ≡ BadLine → take w Z ≡ take w B → Wrote (bad_row number) count out O →
+pub line_refused : (B : List ℕ) (w : ℕ) {g : Given} {r : Option ℕ} {l m Z out O : List ℕ} {number count : ℕ} → w ≤ length B → cut (take w B) ≡ TooFew →
+    ReadsBytes g r l m → r ≡ None → take w Z ≡ take w B → Wrote (bad_row number) count out O →
     ListsLine number g (take w B) (record { waiting = w; count = count }) Z out O
 unfolding printed waiting_after
 line_refused B w {g = g} {Z = Z} {out = out} {O = O} {number = number} {count = count} h few k e same row =

@@ -1,24 +1,16 @@
 -- What a line of `packets` gives. The program is for authors who want A5's reading at hand; no paper has its grammar. A line is bytes, two upper-case
 -- hexadecimal digits each with nothing between, or `-` for none; or one that the text program prints, of which the last field counts.
-use Rattle.std.specs.Prelude.{ℕ, suc, ◌+◌, ◌*◌, ◌≡◌, Bool, true, false, cond, ◌&&◌, List, [], ◌∷◌, eqb, leb, ltb, length, drop}
+use Rattle.std.specs.Prelude.{ℕ, suc, ◌+◌, ◌*◌, ◌≡◌, Bool, true, false, cond, ◌&&◌, Option, Some, None, List, [], ◌∷◌, leb, ltb, length, drop}
+use Rattle.std.specs.Str.{bytes_eq}
 use Rattle.output.specs.Writing.{over}
 use Rattle.text.specs.Line.{hex_digit, digits}
 use Rattle.text.specs.Fronts.{first}
 use Rattle.text.specs.Output.{text}
-use Rattle.listing.specs.declared.input.LineRead.{LineRead}
-use Rattle.listing.specs.declared.input.LineRead.TheVariants.{Good, BadLine}
 
 -- what a line gives: bytes, or nothing where it is bad
 pub data Given : Type 0 where
   gives : List ℕ → Given
   bad : Given
-
--- two texts are the same
-unfoldable pub same : List ℕ → List ℕ → Bool
-same [] [] = true
-same [] (b ∷ k) = false
-same (a ∷ l) [] = false
-same (a ∷ l) (b ∷ k) = eqb a b && same l k
 
 -- two upper-case digits for each byte, and nothing between
 unfoldable pub is_hex : List ℕ → Bool
@@ -39,7 +31,7 @@ spelt_bytes (a ∷ l) = cond (is_hex (a ∷ l)) (gives (spelt (a ∷ l))) bad
 
 -- `-` is none
 unfoldable pub field_bytes : List ℕ → Given
-field_bytes f = cond (same f (text "-")) (gives []) (spelt_bytes f)
+field_bytes f = cond (bytes_eq f (text "-")) (gives []) (spelt_bytes f)
 
 -- one or more decimal digits
 unfoldable pub is_number : List ℕ → Bool
@@ -67,19 +59,19 @@ longest = 32767
 
 -- a line without its line feed; the text program's header gives nothing
 unfoldable pub line_of : List ℕ → Given
-line_of l = cond (ltb longest (length l)) bad (cond (same l (text "line\tanswer\tbytes")) (gives []) (fields_bytes l))
+line_of l = cond (ltb longest (length l)) bad (cond (bytes_eq l (text "line\tanswer\tbytes")) (gives []) (fields_bytes l))
 
 -- the bytes of it: a bad line has none
 abbrev pub bytes_given : Given → List ℕ
 bytes_given (gives bs) = bs
 bytes_given bad = []
 
--- how the code tells it
-abbrev pub told : Given → LineRead
-told (gives bs) = Good (length bs)
-told bad = BadLine
+-- how many they are
+abbrev pub told : Given → Option ℕ
+told (gives bs) = Some (length bs)
+told bad = None
 
 -- The bytes given are written at a buffer's start, and nothing else is.
-pub record ReadsBytes (g : Given) (r : LineRead) (before after : List ℕ) : Type 0 where
+pub record ReadsBytes (g : Given) (r : Option ℕ) (before after : List ℕ) : Type 0 where
   pub result : r ≡ told g
   pub buffer : after ≡ over (bytes_given g) before

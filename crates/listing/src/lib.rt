@@ -7,8 +7,6 @@ ghost use Rattle.receiver.specs.Cut.{cut};
 ghost use Rattle.listing.specs.Input.{line_of};
 ghost use Rattle.listing.specs.Listing.{most_bytes, listing_room, ListsLine};
 
-use input::LineRead;
-
 mod input;
 mod rows;
 
@@ -25,13 +23,14 @@ pub const MOST_BYTES: usize = MOST_LEFT + input::LONGEST / 2 + 1;
 pub const LISTING_ROOM: usize = 23 * MOST_BYTES + rows::ROW_ROOM;
 
 // What a line came to: how many bytes wait for more, at the start of `bytes`, and how many were printed.
-#[derive(Clone, Copy)]
+#[derive(Clone, Copy, Debug, PartialEq, Eq)]
 pub struct Listed {
     pub waiting: usize,
     pub count: usize,
 }
 
 // One line of input, without its line feed: its bytes come behind those that wait, and each packet that is then whole is printed.
+// No struct for `waiting` and `bytes`: any buffer that is long enough may be lent.
 pub fn list_line(
     number: u64,
     line: &[u8],
@@ -39,28 +38,22 @@ pub fn list_line(
     bytes: &mut [u8],
     out: &mut [u8],
 ) -> Listed
-    requires waiting_in_bounds { (waiting ≤ length bytes.old) × (cut (take waiting bytes.old) ≡ TooFew) }
-    requires most_bytes_in_bounds { (most_bytes ≤ length bytes.old) × (listing_room (length bytes.old) ≤ length out.old) }
+    requires few { (waiting ≤ length bytes.old) × (cut (take waiting bytes.old) ≡ TooFew) }
+    requires room { (most_bytes ≤ length bytes.old) × (listing_room (length bytes.old) ≤ length out.old) }
     ensures lists_line { ListsLine number (line_of line.now) (take waiting bytes.old) result bytes.new out.old out.new }
     ensures fits { result.count ≤ length out.old }
     ensures same { length bytes.new ≡ length bytes.old }
 {
-    match input::read_bytes(line, &mut bytes[waiting..]) {
-        LineRead::Good(n) => {
-            let all = waiting + n;
-            let done = rows::list(&bytes[..all], out);
-            let kept = session::keep_most(bytes, done.used, all, MOST_LEFT);
-            Listed {
-                waiting: kept,
-                count: done.count,
-            }
-        }
-        LineRead::BadLine => {
-            let n = rows::write_bad(number, out);
-            Listed {
-                waiting: waiting,
-                count: n,
-            }
-        }
+    let Some(n) = input::read_bytes(line, &mut bytes[waiting..]) else {
+        return Listed {
+            waiting,
+            count: rows::write_bad(number, out),
+        };
+    };
+    let all = waiting + n;
+    let done = rows::list(&bytes[..all], out);
+    Listed {
+        waiting: session::keep_most(bytes, done.used, all, MOST_LEFT),
+        count: done.count,
     }
 }

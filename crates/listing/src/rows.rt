@@ -1,13 +1,13 @@
 // Lines of output: a row for each packet.
-ghost use Rattle.std.specs.Prelude.{◌≡◌, ◌+◌, ◌*◌, ◌≤◌, ◌<◌, ◌^◌, length, take};
+ghost use Rattle.std.specs.Prelude.{◌≡◌, ◌+◌, ◌*◌, ◌≤◌, ◌<◌, length, take};
 ghost use Rattle.output.specs.Writing.{Wrote};
-ghost use Rattle.listing.specs.Rows.{header, row, name_of, packet_row, bad_row, left_row, row_room, left_room};
+ghost use Rattle.listing.specs.Rows.{header, row, name_of, bad_row, left_row, row_room, left_room};
 ghost use Rattle.listing.specs.Listing.{Lists, ListsFirst};
 
 use receiver::{Cut, Kind};
 
 // What bytes came to: how many of them are in the rows, and how many bytes the rows have.
-#[derive(Clone, Copy)]
+#[derive(Clone, Copy, Debug, PartialEq, Eq)]
 pub struct Rows {
     pub used: usize,
     pub count: usize,
@@ -16,42 +16,42 @@ pub struct Rows {
 // The most bytes of a row for a packet.
 pub(crate) const ROW_ROOM: usize = 40;
 
+// The first line of the output. `text` has a header of its own: one call each, with another constant.
 pub fn write_header(out: &mut [u8]) -> usize
     requires { length header ≤ length out.old }
     ensures { Wrote header result out.old out.new }
 {
-    output::copy(b"packet\tbytes\n", 13, out)
+    output::copy(b"packet\tbytes\n", out)
 }
 
-// A row: a name, a tab, and the first `n` of `bytes`.
-fn write_row(name: &[u8], bytes: &[u8], n: usize, out: &mut [u8]) -> usize
-    requires { (n ≤ length bytes.now) × (length name.now + 2 * n + 3 ≤ length out.old) }
-    ensures { Wrote (row name.now (take n bytes.now)) result out.old out.new }
-{
-    let mut at = output::copy(name, name.len(), out);
-    out[at] = b'\t';
-    at += 1;
-    at += text::write_shown(bytes, n, &mut out[at..]);
-    out[at] = b'\n';
-    at + 1
-}
-
-// The row of a packet: the first `n` of `bytes`.
-fn write_packet(kind: Kind, bytes: &[u8], n: usize, out: &mut [u8]) -> usize
-    requires { (n ≤ length bytes.now) × (n ≤ 8) × (row_room ≤ length out.old) }
-    ensures { Wrote (packet_row kind (take n bytes.now)) result out.old out.new }
+// What the rows of a kind are called.
+fn name(kind: Kind) -> &'static [u8]
+    ensures { result.now ≡ name_of kind }
 {
     match kind {
-        Kind::Make => write_row(b"make", bytes, n, out),
-        Kind::Break => write_row(b"break", bytes, n, out),
-        Kind::VersionOrBreak => write_row(b"version or break 70", bytes, n, out),
-        Kind::Status => write_row(b"status", bytes, n, out),
-        Kind::MousePosition => write_row(b"mouse position", bytes, n, out),
-        Kind::MouseMotion => write_row(b"mouse motion", bytes, n, out),
-        Kind::Time => write_row(b"time", bytes, n, out),
-        Kind::BothSticks => write_row(b"both sticks", bytes, n, out),
-        Kind::StickEvent => write_row(b"stick event", bytes, n, out),
+        Kind::Make => b"make",
+        Kind::Break => b"break",
+        Kind::VersionOrBreak => b"version or break 70",
+        Kind::Status => b"status",
+        Kind::MousePosition => b"mouse position",
+        Kind::MouseMotion => b"mouse motion",
+        Kind::Time => b"time",
+        Kind::BothSticks => b"both sticks",
+        Kind::StickEvent => b"stick event",
     }
+}
+
+// A row: a name, a tab, and the bytes.
+fn write_row(name: &[u8], bytes: &[u8], out: &mut [u8]) -> usize
+    requires { length name.now + 2 * length bytes.now + 3 ≤ length out.old }
+    ensures { Wrote (row name.now bytes.now) result out.old out.new }
+{
+    let mut at = output::copy(name, out);
+    out[at] = b'\t';
+    at += 1;
+    at += text::write_shown(bytes, &mut out[at..]);
+    out[at] = b'\n';
+    at + 1
 }
 
 // The row of the first packet, or of a byte that starts none; no row where there are too few bytes.
@@ -61,7 +61,7 @@ fn write_first(bytes: &[u8], out: &mut [u8]) -> Rows
 {
     match receiver::first_packet(bytes) {
         Cut::Whole { kind, length } => {
-            let n = write_packet(kind, bytes, length, out);
+            let n = write_row(name(kind), &bytes[..length], out);
             Rows {
                 used: length,
                 count: n,
@@ -69,13 +69,14 @@ fn write_first(bytes: &[u8], out: &mut [u8]) -> Rows
         }
         Cut::TooFew => Rows { used: 0, count: 0 },
         Cut::NoPacket => {
-            let n = write_row(b"no packet", bytes, 1, out);
+            let n = write_row(b"no packet", &bytes[..1], out);
             Rows { used: 1, count: n }
         }
     }
 }
 
-// The rows of bytes, one after the other, until they are too few for a packet or there is no room for a row.
+// The rows of bytes, one after the other, until they are too few for a packet or there is no room for a row. No `for`: no index is
+// counted, and each packet says how far the next is.
 pub(crate) fn list(bytes: &[u8], out: &mut [u8]) -> Rows
     ensures { Lists bytes.now result out.old out.new }
 {
@@ -99,11 +100,12 @@ pub(crate) fn list(bytes: &[u8], out: &mut [u8]) -> Rows
 }
 
 // The row of a bad line.
+#[tactic(auto, using(output::proofs::Writing::both, output::proofs::Writing::kept, text::proofs::Counting::decimal_most))]
 pub(crate) fn write_bad(number: u64, out: &mut [u8]) -> usize
     requires { row_room ≤ length out.old }
     ensures { Wrote (bad_row number) result out.old out.new }
 {
-    let mut at = output::copy(b"bad line ", 9, out);
+    let mut at = output::copy(b"bad line ", out);
     at += text::write_decimal(number, &mut out[at..]);
     at += output::put3(b'\t', b'-', b'\n', &mut out[at..]);
     at
@@ -114,9 +116,8 @@ pub fn write_left(bytes: &[u8], out: &mut [u8]) -> usize
     requires { left_room (length bytes.now) ≤ length out.old }
     ensures { Wrote (left_row bytes.now) result out.old out.new }
 {
-    let n = bytes.len();
-    if n == 0 {
+    if bytes.is_empty() {
         return 0;
     }
-    write_row(b"too few", bytes, n, out)
+    write_row(b"too few", bytes, out)
 }

@@ -3,7 +3,7 @@
 use Rattle.std.specs.Prelude.{ℕ, suc, ◌+◌, ◌-◌, ◌/◌, ◌%◌, min, max, ◌≡◌, Bool, cond, leb, ltb, ℤ, pos, negsuc, ◌-ℤ◌, ◌*ℤ◌}
 use Rattle.std.proofs.Math.IntN.{sub_ℕ}
 use Rattle.motion.specs.declared.Motion.{Motion}
-use Rattle.motion.specs.declared.Motions.{Motions}
+use Rattle.motion.specs.declared.Axes.{Axes}
 
 -- the integer that a motion stands for
 abbrev pub value : Motion → ℤ
@@ -22,7 +22,7 @@ abbrev pub still : Motion
 still = record { plus = 0; minus = 0 }
 
 -- 0 along both: held motion at power-up ("all else zero"), after "all is sent" and after "clear held motion"
-abbrev pub at_rest : Motions
+abbrev pub at_rest : Axes Motion
 at_rest = record { x = still; y = still }
 
 -- the motion of a signed number, as an event gives it

@@ -22,6 +22,7 @@ impl Motion {
     }
 }
 
+// Two methods and no `Iterator`: `SaysPart` and `MovesOn` each speak of one of them, and there is always a next.
 impl Spread {
     // X or Y of the next packet.
     pub fn byte(self) -> u8
@@ -30,7 +31,7 @@ impl Spread {
         if (self.error as u32 + self.rest as u32) < (self.packets as u32) {
             return self.each;
         }
-        ((self.each as u16 + 1) % 256) as u8
+        self.each.wrapping_add(1)
     }
 
     // Before the packet after that.

@@ -1,26 +1,45 @@
 // Mouse motion along an axis, as two sides of which one is 0: its value is `plus` less `minus`.
 #![tactic(auto)]
 
-ghost use Rattle.std.specs.Prelude.{◌≡◌, ◌+◌, ◌-◌, ◌≤◌, min, max};
+ghost use Rattle.std.specs.Prelude.{◌≡◌, ◌+◌, ◌-◌, ◌≤◌};
 ghost use Rattle.motion.specs.Motion.{at_rest, of_signed, sum, opposite, size, reaches, quotient, remainder, packets_needed, coordinate_after};
 
 mod evenly;
 
-#[derive(Clone, Copy)]
+#[derive(Clone, Copy, Debug, PartialEq, Eq)]
 pub struct Motion {
     pub plus: u16,
     pub minus: u16,
 }
 
-// Motion along both axes: x to the right, y toward the user, or away from the user where an origin at the bottom has negated it.
-#[derive(Clone, Copy)]
-pub struct Motions {
-    pub x: Motion,
-    pub y: Motion,
+// Something for each axis of the mouse: x to the right, y toward the user, or away from the user where an origin at the bottom has negated
+// it. A byte each for thresholds, scales and deltas, two bytes for coordinates, and a motion for what is held.
+#[derive(Clone, Copy, Debug, PartialEq, Eq)]
+pub struct Axes<T> {
+    pub x: T,
+    pub y: T,
+}
+
+pub type Motions = Axes<Motion>;
+
+impl<T> Axes<T> {
+    // What `f` makes of each axis, here and in `other`.
+    #[inline(always)]
+    pub fn zip_with<U, V, F: Fn(T, U) -> V>(self, other: Axes<U>, f: F) -> Axes<V>
+        requires x { F.pre f self.x other.x }
+        requires y { F.pre f self.y other.y }
+        ensures x { F.post f self.x other.x result.x }
+        ensures y { F.post f self.y other.y result.y }
+    {
+        Axes {
+            x: f(self.x, other.x),
+            y: f(self.y, other.y),
+        }
+    }
 }
 
 // What is kept before each packet: every packet carries `each`, a byte in two's complement, and 1 more whenever the `rest` that the division left has added up to the number of packets; `error` is what has added up.
-#[derive(Clone, Copy)]
+#[derive(Clone, Copy, Debug, PartialEq, Eq)]
 pub struct Spread {
     pub packets: u16,
     pub each: u8,
@@ -29,15 +48,15 @@ pub struct Spread {
 }
 
 impl Motion {
-    // The one place where a signed number comes in. -1 less a negative number always fits, where 0 less it may not.
+    // The one place where a signed number comes in.
     pub fn of_signed(z: i16) -> Self
-        ensures { result ≡ of_signed z }
+        ensures did { result ≡ of_signed z }
+        ensures far { size result ≤ 32768 }
     {
         if z < 0 {
-            let n = -1 - z;
             return Motion {
                 plus: 0,
-                minus: n as u16 + 1,
+                minus: z.unsigned_abs(),
             };
         }
         Motion {
@@ -53,8 +72,8 @@ impl Motion {
         let p = self.plus + d.plus;
         let m = self.minus + d.minus;
         Motion {
-            plus: less(p, m),
-            minus: less(m, p),
+            plus: p.saturating_sub(m),
+            minus: m.saturating_sub(p),
         }
     }
 
@@ -74,6 +93,7 @@ impl Motion {
         self.plus as u32 + self.minus as u32
     }
 
+    #[tactic(auto, unfolding(crate::specs::Motion::reaches))]
     pub fn reaches(self, threshold: u8) -> bool
         ensures { result ≡ reaches self threshold }
     {
@@ -81,6 +101,7 @@ impl Motion {
     }
 
     // Divided toward zero: each side is.
+    #[tactic(auto, unfolding(crate::specs::Motion::quotient))]
     pub fn quotient(self, scale: u8) -> Self
         requires { 1 ≤ scale }
         ensures { result ≡ quotient self scale }
@@ -92,6 +113,7 @@ impl Motion {
         }
     }
 
+    #[tactic(auto, unfolding(crate::specs::Motion::remainder))]
     pub fn remainder(self, scale: u8) -> Self
         requires { 1 ≤ scale }
         ensures { result ≡ remainder self scale }
@@ -103,28 +125,23 @@ impl Motion {
         }
     }
 
-    // The sums may pass 16 bits.
+    // A packet takes at most 127 forward and 128 back.
+    #[tactic(auto, unfolding(crate::specs::Motion::packets_needed))]
     pub fn packets_needed(self) -> u16
         ensures { result ≡ packets_needed self }
     {
-        let p = (self.plus as u32 + 126) / 127;
-        let m = (self.minus as u32 + 127) / 128;
-        larger(p as u16, m as u16)
+        self.plus.div_ceil(127).max(self.minus.div_ceil(128))
     }
 
     // A coordinate once this motion has moved it, held to 0 and the maximum. The sum may pass 16 bits.
+    #[tactic(auto, unfolding(crate::specs::Motion::coordinate_after))]
     pub fn coordinate_after(self, maximum: u16, place: u16) -> u16
         ensures { result ≡ coordinate_after maximum place self }
     {
-        let p = place as u32 + self.plus as u32;
-        let m = self.minus as u32;
-        if p < m {
-            return 0;
-        }
-        if (maximum as u32) < p - m {
-            return maximum;
-        }
-        (p - m) as u16
+        let reached = place as u32 + self.plus as u32;
+        reached
+            .saturating_sub(self.minus as u32)
+            .min(maximum as u32) as u16
     }
 }
 
@@ -132,28 +149,9 @@ impl Motions {
     pub fn at_rest() -> Self
         ensures { result ≡ at_rest }
     {
-        Motions {
+        Axes {
             x: Motion { plus: 0, minus: 0 },
             y: Motion { plus: 0, minus: 0 },
         }
     }
-}
-
-// a less b, or 0.
-fn less(a: u16, b: u16) -> u16
-    ensures { result ≡ a - b }
-{
-    if a < b { 0 } else { a - b }
-}
-
-pub fn smaller(a: u16, b: u16) -> u16
-    ensures { result ≡ min a b }
-{
-    if a < b { a } else { b }
-}
-
-pub fn larger(a: u16, b: u16) -> u16
-    ensures { result ≡ max a b }
-{
-    if a < b { b } else { a }
 }

@@ -11,14 +11,14 @@ use lib.IntN.{ℤ, pos, neg_ℤ, ◌+ℤ◌, +ℤ_idl, +ℤ_idr, +ℤ_assoc}
 use borrow.Author.Tests.{ne_eqb}
 use Rattle.output.specs.Packets.{Packet}
 use Rattle.output.proofs.Cases.{both_ways}
-use Rattle.motion.specs.declared.Motions.{Motions}
+use Rattle.motion.specs.declared.Motion.{Motion}
+use Rattle.motion.specs.declared.Axes.{Axes}
 use Rattle.motion.specs.Motion.{value, opposite, of_signed}
 use Rattle.motion.proofs.Integers.{value_of_signed, value_sum, value_opposite}
 use Rattle.protocol.specs.declared.MouseMode.{MouseMode}
 use Rattle.protocol.specs.declared.MouseMode.TheVariants.{Relative, Absolute, Keycode}
 use Rattle.protocol.specs.declared.MouseCommand.{MouseCommand}
 use Rattle.protocol.specs.declared.MouseCommand.TheVariants.{SetAction, SetRelative, SetAbsolute, SetKeycode, SetThreshold, SetScale, ReportPosition, LoadPosition, OriginBottom, OriginTop}
-use Rattle.protocol.specs.declared.Axes.{Axes}
 use Rattle.protocol.specs.declared.Settings.{Settings}
 use Rattle.mouse.specs.declared.Mouse.{Mouse}
 use Rattle.mouse.specs.declared.Side.{Side}
@@ -56,7 +56,7 @@ pub send_all_keeps : (a : Axis) (least : ℕ) (m : Mouse) → Keeps a m (send_al
 send_all_keeps a least m = ap₂ ◌+ℤ◌ (ap (said a) (all_due least m)) (none_held a least m) ∙ +ℤ_idr _ ∙ split_says a _ _ m.held (enough a least m.held)
 
 -- held motion that is due in relative mode is sent, or stays held
-due_keeps : (a : Axis) (threshold : Axes) (m : Mouse) → Keeps a m (motion_due Relative threshold m)
+due_keeps : (a : Axis) (threshold : Axes ℕ) (m : Mouse) → Keeps a m (motion_due Relative threshold m)
 unfolding motion_due
 due_keeps a threshold m =
     both_ways (Keeps a m) (either_reaches threshold m.held)
@@ -74,7 +74,7 @@ incoming_brings AlongX σ dx dy e = value_of_signed dx
 incoming_brings AlongY σ dx dy e = rw e (turned σ.bottom dy)
 
 -- it is added to what is held
-added_to_held_brings : (a : Axis) (σ : Settings) (dx dy : ℤ) (held : Motions) → σ.mouse ≡ Relative → value (along a (added_to_held σ dx dy held)) ≡ value (along a held) +ℤ brings a σ.bottom dx dy
+added_to_held_brings : (a : Axis) (σ : Settings) (dx dy : ℤ) (held : Axes Motion) → σ.mouse ≡ Relative → value (along a (added_to_held σ dx dy held)) ≡ value (along a held) +ℤ brings a σ.bottom dx dy
 unfolding added_to_held
 added_to_held_brings AlongX σ dx dy held e =
     value_sum held.x (incoming σ dx dy).x ∙ ap (λ (z : ℤ). value held.x +ℤ z) (incoming_brings AlongX σ dx dy e)
@@ -138,13 +138,13 @@ pub presses_conserve : (a : Axis) (σ : Settings) (side : Side) (down : Bool) (m
 unfolding presses
 presses_conserve a σ side down m =
     let now = with_level side down m in
-    let same = ap (λ (h : Motions). value (along a h)) (level_held side down m) in
+    let same = ap (λ (h : Axes Motion). value (along a h)) (level_held side down m) in
     both_ways (Keeps a m) (unchanged side down m) (λ t. nothing_said a _ refl)
     (λ t.
     both_ways (Keeps a m) (live σ) (λ l. live_button_keeps a σ.mouse σ.action side down now ∙ same) (λ l. nothing_said a _ refl ∙ same))
 
 -- there are as many packets as are asked for
-from_count : (rest n k levels : ℕ) (d : Motions) → length (split_from rest n k levels d) ≡ rest
+from_count : (rest n k levels : ℕ) (d : Axes Motion) → length (split_from rest n k levels d) ≡ rest
 unfolding split_from
 from_count zero n k levels d = refl
 from_count (suc rest) n k levels d = ap suc (from_count rest n (k + 1) levels d)

@@ -12,7 +12,7 @@ use Rattle.output.specs.Packets.{bytes, pairs}
 use Rattle.output.specs.Short.{short_room}
 use Rattle.output.proofs.Cases.{both_ways}
 use Rattle.motion.specs.Motion.{at_rest}
-use Rattle.protocol.specs.declared.Axes.{Axes}
+use Rattle.motion.specs.declared.Axes.{Axes}
 use Rattle.protocol.specs.declared.MouseMode.{MouseMode}
 use Rattle.protocol.specs.declared.MouseMode.TheVariants.{Relative, Absolute, Keycode}
 use Rattle.protocol.specs.declared.MouseCommand.{MouseCommand}
@@ -52,7 +52,7 @@ unfolding send_all packets_sent
 all_due least m = simp (no_arrows, append-nil)
 
 -- motion and a resume send nothing but held motion
-due_others : (mode : MouseMode) (t : Axes) (m : Mouse) → (motion_due mode t m).others ≡ []
+due_others : (mode : MouseMode) (t : Axes ℕ) (m : Mouse) → (motion_due mode t m).others ≡ []
 unfolding motion_due send_all send_deltas
 due_others Relative t m = both_ways (λ (d : MouseDue). d.others ≡ []) (either_reaches t m.held) (λ _. refl) (λ _. refl)
 due_others (Absolute maximum) t m = refl

@@ -11,7 +11,8 @@ use Rattle.output.specs.ScanCodes.{arrow_right, arrow_left, arrow_up, arrow_down
 use Rattle.output.specs.Packets.{pairs}
 use Rattle.output.proofs.Cases.{both_ways}
 use Rattle.output.proofs.Framed.{AllFramed, framed_append, sent_framed, pairs_framed}
-use Rattle.motion.specs.declared.Motions.{Motions}
+use Rattle.motion.specs.declared.Motion.{Motion}
+use Rattle.motion.specs.declared.Axes.{Axes}
 use Rattle.protocol.specs.declared.MouseMode.{MouseMode}
 use Rattle.protocol.specs.declared.MouseMode.TheVariants.{Relative, Absolute, Keycode}
 use Rattle.protocol.specs.declared.MouseCommand.{MouseCommand}
@@ -34,12 +35,12 @@ buttons_most true false = omega arith
 buttons_most false true = omega arith
 buttons_most false false = omega arith
 
-split_framed : (rest n k levels : ℕ) (d : Motions) → levels ≤ 3 → AllFramed (split_from rest n k levels d)
+split_framed : (rest n k levels : ℕ) (d : Axes Motion) → levels ≤ 3 → AllFramed (split_from rest n k levels d)
 unfolding split_from
 split_framed zero n k levels d h = tt
 split_framed (suc rest) n k levels d h = (h, split_framed rest n (k + 1) levels d h)
 
-arrows_framed : (d : Motions) → AllFramed (arrows d)
+arrows_framed : (d : Axes Motion) → AllFramed (arrows d)
 unfolding arrows is_make
 arrows_framed d =
     framed_append (pairs d.x.plus arrow_right) _ (pairs_framed d.x.plus arrow_right refl)

@@ -12,10 +12,10 @@ use Rattle.output.specs.ScanCodes.{arrow_right, arrow_left, arrow_up, arrow_down
 use Rattle.output.specs.Packets.{Packet, bytes, pairs}
 use Rattle.output.proofs.Cases.{both_ways}
 use Rattle.output.proofs.Packets.{bytes_append, pairs_length}
-use Rattle.motion.specs.declared.Motions.{Motions}
+use Rattle.motion.specs.declared.Motion.{Motion}
+use Rattle.motion.specs.declared.Axes.{Axes}
 use Rattle.motion.specs.Motion.{size}
 use Rattle.motion.proofs.Bounds.{quotient_size, needed_size}
-use Rattle.protocol.specs.declared.Axes.{Axes}
 use Rattle.protocol.specs.declared.MouseMode.{MouseMode}
 use Rattle.protocol.specs.declared.MouseMode.TheVariants.{Relative, Absolute, Keycode}
 use Rattle.protocol.specs.declared.Settings.{Settings}
@@ -35,19 +35,19 @@ use Rattle.mouse.proofs.Dues.{none_sent, quiet_due}
 use Rattle.mouse.proofs.States.{GoodMouse, added_to_held_size, level_held, held_small, held_unpaused}
 
 -- n packets of motion are 3·n bytes
-from_length : (rest n k levels : ℕ) (d : Motions) → length (bytes (split_from rest n k levels d)) ≡ 3 * rest
+from_length : (rest n k levels : ℕ) (d : Axes Motion) → length (bytes (split_from rest n k levels d)) ≡ 3 * rest
 unfolding split_from
 from_length zero n k levels d = refl
 from_length (suc rest) n k levels d = let h = from_length rest n (k + 1) levels d in omega arith
 
-pub split_length : (n levels : ℕ) (d : Motions) → length (bytes (split n levels d)) ≡ 3 * n
+pub split_length : (n levels : ℕ) (d : Axes Motion) → length (bytes (split n levels d)) ≡ 3 * n
 split_length n levels d = from_length n n 0 levels d
 
 four_append : (a b c d : List Packet) → length (bytes (a ++ (b ++ (c ++ d)))) ≡ length (bytes a) + (length (bytes b) + (length (bytes c) + length (bytes d)))
 four_append a b c d = simp (bytes_append, length-append)
 
 -- two bytes for each step that the arrows stand for
-pub arrows_length : (d : Motions) → length (bytes (arrows d)) ≡ 2 * (size d.x + size d.y)
+pub arrows_length : (d : Axes Motion) → length (bytes (arrows d)) ≡ 2 * (size d.x + size d.y)
 unfolding arrows
 arrows_length d =
     four_append (pairs d.x.plus arrow_right) (pairs d.x.minus arrow_left) (pairs d.y.plus arrow_down) (pairs d.y.minus arrow_up)
@@ -83,7 +83,7 @@ all_length least n m hx hy =
       needed_size m.held.y,
     )
 
-send_deltas_length : (delta : Axes) (n : ℕ) (m : Mouse) → size m.held.x ≤ n → size m.held.y ≤ n → length (bytes (packets_due (send_deltas delta m))) ≤ 4 * n
+send_deltas_length : (delta : Axes ℕ) (n : ℕ) (m : Mouse) → size m.held.x ≤ n → size m.held.y ≤ n → length (bytes (packets_due (send_deltas delta m))) ≤ 4 * n
 unfolding send_deltas
 send_deltas_length delta n m hx hy =
     omega (
@@ -93,7 +93,7 @@ send_deltas_length delta n m hx hy =
       quotient_size m.held.y (acts_as delta.y),
     )
 
-due_length : (mode : MouseMode) (t : Axes) (n : ℕ) (m : Mouse) → size m.held.x ≤ n → size m.held.y ≤ n → length (bytes (packets_due (motion_due mode t m))) ≤ 4 * n
+due_length : (mode : MouseMode) (t : Axes ℕ) (n : ℕ) (m : Mouse) → size m.held.x ≤ n → size m.held.y ≤ n → length (bytes (packets_due (motion_due mode t m))) ≤ 4 * n
 unfolding motion_due
 due_length Relative t n m hx hy =
     both_ways (λ (d : MouseDue). length (bytes (packets_due d)) ≤ 4 * n) (either_reaches t m.held)

@@ -4,6 +4,4 @@ pub mod Lengths
 pub mod Splits
 pub mod Conserved
 pub mod Framed
-pub mod Bits
 pub mod Sends
-pub mod Outcomes

@@ -8,7 +8,7 @@ use lib.ListN.{length, length-map}
 use lib.IntN.{ℤ, pos, ◌+ℤ◌}
 use Rattle.output.specs.Packets.{Packet}
 use Rattle.motion.specs.declared.Motion.{Motion}
-use Rattle.motion.specs.declared.Motions.{Motions}
+use Rattle.motion.specs.declared.Axes.{Axes}
 use Rattle.motion.specs.Motion.{value, packets_needed}
 use Rattle.motion.specs.LongMoves.{parts_from, total}
 use Rattle.motion.proofs.LongMoves.{bytes_say, parts_sum, no_fewer}
@@ -20,7 +20,7 @@ use Rattle.mouse.specs.LongMoves.{PacketsCarry, FewestPackets}
 use Rattle.mouse.proofs.Dues.{all_due}
 
 -- enough packets say the parts that they carry
-from_says : (a : Axis) (rest n k levels : ℕ) (d : Motions) → k + rest ≡ n → packets_needed (along a d) ≤ n →
+from_says : (a : Axis) (rest n k levels : ℕ) (d : Axes Motion) → k + rest ≡ n → packets_needed (along a d) ≤ n →
     map (says a) (split_from rest n k levels d) ≡ parts_from rest n k (value (along a d))
 unfolding split_from
 from_says a zero n k levels d c h = refl
@@ -41,11 +41,11 @@ whole : (n : ℕ) (m : Motion) → packets_needed m ≤ n → total (parts_from 
 whole zero m h = sym (none_needed m h)
 whole (suc n) m h = parts_sum (suc n) (value m) (omega arith)
 
-pub split_says : (a : Axis) (n levels : ℕ) (d : Motions) → packets_needed (along a d) ≤ n → said a (split n levels d) ≡ value (along a d)
+pub split_says : (a : Axis) (n levels : ℕ) (d : Axes Motion) → packets_needed (along a d) ≤ n → said a (split n levels d) ≡ value (along a d)
 split_says a n levels d h = said_total a (split n levels d) ∙ ap total (from_says a n n 0 levels d (omega arith) h) ∙ whole n (along a d) h
 
 -- the axis that needs the most packets gives the other enough
-pub enough : (a : Axis) (least : ℕ) (d : Motions) → packets_needed (along a d) ≤ max least (packets_for d)
+pub enough : (a : Axis) (least : ℕ) (d : Axes Motion) → packets_needed (along a d) ≤ max least (packets_for d)
 enough AlongX least d = omega arith
 enough AlongY least d = omega arith
 

@@ -10,12 +10,10 @@ use lib.IntN.{ℤ, nat_abs}
 use borrow.Author.Tests.{ltb-false}
 use Rattle.output.proofs.Cases.{both_ways, and_true, or_false}
 use Rattle.motion.specs.declared.Motion.{Motion}
-use Rattle.motion.specs.declared.Motions.{Motions}
+use Rattle.motion.specs.declared.Axes.{Axes}
 use Rattle.motion.specs.Motion.{OneSided, size, of_signed, sum, opposite, reaches, remainder}
 use Rattle.motion.proofs.Bounds.{sum_size, signed_size, below, remainder_size}
 use Rattle.motion.proofs.Integers.{one_sided_sum, one_sided_remainder, coordinate_within}
-use Rattle.protocol.specs.declared.Axes.{Axes}
-use Rattle.protocol.specs.declared.Point.{Point}
 use Rattle.protocol.specs.declared.MouseMode.{MouseMode}
 use Rattle.protocol.specs.declared.MouseMode.TheVariants.{Relative, Absolute, Keycode}
 use Rattle.protocol.specs.declared.Settings.{Settings}
@@ -37,7 +35,7 @@ pub record GoodMouse (paused : Bool) (σ : Settings) (m : Mouse) : Type 0 where
   pub spelling : OneMouse m
 
 -- the same over plain numbers: held motion at most this much, coordinates at most these
-record Within (most : ℕ) (maximum : Point) (m : Mouse) : Type 0 where
+record Within (most : ℕ) (maximum : Axes ℕ) (m : Mouse) : Type 0 where
   x : m.place.x ≤ maximum.x
   y : m.place.y ≤ maximum.y
   held_x : size m.held.x ≤ most
@@ -92,7 +90,7 @@ unfolding held_most gathers
 dead_most true σ h = rw h
 dead_most false σ h = refl
 
-widen : {a b : ℕ} {p : Point} {m : Mouse} → a ≤ b → Within a p m → Within b p m
+widen : {a b : ℕ} {p : Axes ℕ} {m : Mouse} → a ≤ b → Within a p m → Within b p m
 widen h w = record {
   x = w.x;
   y = w.y;
@@ -110,11 +108,11 @@ left_small : (d : Motion) (n : ℕ) → n ≤ 255 → OneSided d → size (remai
 left_small d n h one = omega (arith, remainder_size d (acts_as n) (acts_small n h).0 one, acts_small n h)
 
 -- motion all sent
-sent_within : (least : ℕ) {most : ℕ} {p : Point} {m : Mouse} → Within most p m → Within held_usual p (send_all least m).mouse
+sent_within : (least : ℕ) {most : ℕ} {p : Axes ℕ} {m : Mouse} → Within most p m → Within held_usual p (send_all least m).mouse
 unfolding send_all
 sent_within least w = record { x = w.x; y = w.y; held_x = omega arith; held_y = omega arith; one_x = refl; one_y = refl }
 
-send_deltas_within : (delta : Axes) {most : ℕ} {p : Point} (m : Mouse) → IsAxes delta → Within most p m → Within held_usual p (send_deltas delta m).mouse
+send_deltas_within : (delta : Axes ℕ) {most : ℕ} {p : Axes ℕ} (m : Mouse) → IsAxes delta → Within most p m → Within held_usual p (send_deltas delta m).mouse
 unfolding send_deltas
 send_deltas_within delta m h w = record {
   x = w.x;
@@ -125,7 +123,7 @@ send_deltas_within delta m h w = record {
   one_y = one_sided_remainder m.held.y (acts_as delta.y) w.one_y;
 }
 
-coordinates_moved_within : (scales : Axes) {most : ℕ} (p : Point) (m : Mouse) → IsAxes scales → Within most p m → Within held_usual p (coordinates_moved p scales m)
+coordinates_moved_within : (scales : Axes ℕ) {most : ℕ} (p : Axes ℕ) (m : Mouse) → IsAxes scales → Within most p m → Within held_usual p (coordinates_moved p scales m)
 unfolding coordinates_moved
 coordinates_moved_within scales p m h w = record {
   x = coordinate_within p.x m.place.x (quotients scales m.held).x;
@@ -137,7 +135,7 @@ coordinates_moved_within scales p m h w = record {
 }
 
 -- below both thresholds, at most 254 is held
-reach_within : (t : Axes) {most : ℕ} {p : Point} (m : Mouse) → IsAxes t → Within most p m → Within held_usual p (motion_due Relative t m).mouse
+reach_within : (t : Axes ℕ) {most : ℕ} {p : Axes ℕ} (m : Mouse) → IsAxes t → Within most p m → Within held_usual p (motion_due Relative t m).mouse
 unfolding motion_due either_reaches
 reach_within t {p = p} m h w =
     both_ways (λ (d : MouseDue). Within held_usual p d.mouse)
@@ -159,7 +157,7 @@ mode_is : (σ : Settings) (mode : MouseMode) → σ.mouse ≡ mode → IsSetting
 mode_is σ mode e h = subst IsMouseMode e h.mouse
 
 -- at a resume, what is left held is small
-released_within : (mode : MouseMode) (t : Axes) (m : Mouse) → IsAxes t → IsMouseMode mode →
+released_within : (mode : MouseMode) (t : Axes ℕ) (m : Mouse) → IsAxes t → IsMouseMode mode →
     Within (cond (not (is_absolute mode)) held_limit held_usual) (maximum_of mode) m → Within held_usual (maximum_of mode) (motion_due mode t m).mouse
 unfolding motion_due
 released_within Relative t m ht hm w = reach_within t m ht w
@@ -201,7 +199,7 @@ live_motion_within (Keycode delta) true σ m h hm room w = record {
 live_motion_within (Keycode delta) false σ m h hm room w = send_deltas_within delta m hm w
 
 -- an event adds at most what it brings
-pub added_to_held_size : (σ : Settings) (dx dy : ℤ) (held : Motions) →
+pub added_to_held_size : (σ : Settings) (dx dy : ℤ) (held : Axes Motion) →
     (size (added_to_held σ dx dy held).x ≤ size held.x + nat_abs dx) × (size (added_to_held σ dx dy held).y ≤ size held.y + nat_abs dy)
 unfolding added_to_held incoming
 added_to_held_size σ dx dy held =
@@ -211,7 +209,7 @@ added_to_held_size σ dx dy held =
     by true = omega (arith, sum_size held.y (opposite (of_signed dy)), signed_size dy)
     by false = omega (arith, sum_size held.y (of_signed dy), signed_size dy)
 
-added_to_held_within : (σ : Settings) (dx dy : ℤ) {most : ℕ} {p : Point} (m : Mouse) → Within most p m →
+added_to_held_within : (σ : Settings) (dx dy : ℤ) {most : ℕ} {p : Axes ℕ} (m : Mouse) → Within most p m →
     Within (most + max (nat_abs dx) (nat_abs dy)) p (with_held (added_to_held σ dx dy m.held) m)
 unfolding added_to_held
 added_to_held_within σ dx dy m w = record {
@@ -250,14 +248,14 @@ pub level_held : (side : Side) (down : Bool) (m : Mouse) → (with_level side do
 level_held Left down m = refl
 level_held Right down m = refl
 
-level_within : (side : Side) (down : Bool) {most : ℕ} {p : Point} {m : Mouse} → Within most p m → Within most p (with_level side down m)
+level_within : (side : Side) (down : Bool) {most : ℕ} {p : Axes ℕ} {m : Mouse} → Within most p m → Within most p (with_level side down m)
 level_within Left down w = record { x = w.x; y = w.y; held_x = w.held_x; held_y = w.held_y; one_x = w.one_x; one_y = w.one_y }
 level_within Right down w = record { x = w.x; y = w.y; held_x = w.held_x; held_y = w.held_y; one_x = w.one_x; one_y = w.one_y }
 
-latch_within : (side : Side) (down : Bool) {most : ℕ} {p : Point} {m : Mouse} → Within most p m → Within most p (with_latch side down m)
+latch_within : (side : Side) (down : Bool) {most : ℕ} {p : Axes ℕ} {m : Mouse} → Within most p m → Within most p (with_latch side down m)
 latch_within side down w = record { x = w.x; y = w.y; held_x = w.held_x; held_y = w.held_y; one_x = w.one_x; one_y = w.one_y }
 
-button_within : (mode : MouseMode) (action : ℕ) (side : Side) (down : Bool) {most : ℕ} {p : Point} (m : Mouse) → held_usual ≤ most → Within most p m →
+button_within : (mode : MouseMode) (action : ℕ) (side : Side) (down : Bool) {most : ℕ} {p : Axes ℕ} (m : Mouse) → held_usual ≤ most → Within most p m →
     Within most p (live_button mode action side down m).mouse
 unfolding live_button
 button_within Relative action side down {most} {p} m h w =
@@ -290,7 +288,7 @@ pub pause_is : (paused : Bool) (σ : Settings) (m : Mouse) → GoodMouse paused 
 pause_is true σ m g = g
 pause_is false σ m g = good (widen (least_most true σ) (rw (unpaused_most σ) at (within g)))
 
-anew : {most : ℕ} {p q : Point} {m : Mouse} → Within most p m → Within held_usual q (with_held (record { x = record { plus = 0; minus = 0 }; y = record { plus = 0; minus = 0 } }) (record { place = record { x = 0; y = 0 }; held = m.held; left = m.left; right = m.right; latches = m.latches }))
+anew : {most : ℕ} {p q : Axes ℕ} {m : Mouse} → Within most p m → Within held_usual q (with_held (record { x = record { plus = 0; minus = 0 }; y = record { plus = 0; minus = 0 } }) (record { place = record { x = 0; y = 0 }; held = m.held; left = m.left; right = m.right; latches = m.latches }))
 anew w = record { x = omega arith; y = omega arith; held_x = omega arith; held_y = omega arith; one_x = refl; one_y = refl }
 
 -- The clearing keeps the mouse good, paused or not.

@@ -1,6 +1,6 @@
 -- What executed commands do to the mouse's part of the state, and what they send of it (document 01, "Reading commands" and "The mouse").
 use Rattle.std.specs.Prelude.{ℕ, min, List}
-use Rattle.protocol.specs.declared.Point.{Point}
+use Rattle.motion.specs.declared.Axes.{Axes}
 use Rattle.protocol.specs.declared.MouseMode.{MouseMode}
 use Rattle.protocol.specs.declared.MouseCommand.{MouseCommand}
 use Rattle.protocol.specs.declared.MouseCommand.TheVariants.{SetAction, SetRelative, SetAbsolute, SetKeycode, SetThreshold, SetScale, ReportPosition, LoadPosition, OriginBottom, OriginTop}
@@ -14,7 +14,7 @@ abbrev pub started_anew : Mouse → Mouse
 started_anew m = with_place origin (without_motion m)
 
 -- "0x0E is held to the maximum." Its first byte is a filler.
-abbrev pub loaded : Point → List ℕ → Mouse → Mouse
+abbrev pub loaded : Axes ℕ → List ℕ → Mouse → Mouse
 loaded maximum ps m = with_place (record { x = min maximum.x (point_at 1 ps).x; y = min maximum.y (point_at 1 ps).y }) m
 
 -- "0x0D sends 0xF7, ... and clears the latches": A7's look and its clearing, "one after the other"

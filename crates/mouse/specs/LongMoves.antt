@@ -1,7 +1,8 @@
 -- What is promised of the packets in which held motion is sent (document 02, A6). In relative mode all that sends it, motion, a button or a resume, does so by `send_all`.
 use Rattle.std.specs.Prelude.{ℕ, ◌≤◌, max, ◌≡◌, List, map, length}
 use Rattle.output.specs.Packets.{Packet}
-use Rattle.motion.specs.declared.Motions.{Motions}
+use Rattle.motion.specs.declared.Motion.{Motion}
+use Rattle.motion.specs.declared.Axes.{Axes}
 use Rattle.motion.specs.Motion.{value, OneSided}
 use Rattle.motion.specs.LongMoves.{parts_from, AllFit}
 use Rattle.mouse.specs.declared.Mouse.{Mouse}
@@ -16,5 +17,5 @@ PacketsCarry = (a : Axis) (least : ℕ) (m : Mouse) →
 
 -- "The fewest packets are sent": packets that say the same along both axes are as many at least
 abbrev pub FewestPackets : Type 0
-FewestPackets = (d : Motions) (ps : List Packet) → ((a : Axis) → OneSided (along a d)) → ((a : Axis) → AllFit (map (says a) ps)) →
+FewestPackets = (d : Axes Motion) (ps : List Packet) → ((a : Axis) → OneSided (along a d)) → ((a : Axis) → AllFit (map (says a) ps)) →
     ((a : Axis) → said a ps ≡ value (along a d)) → packets_for d ≤ length ps

@@ -1,8 +1,8 @@
 -- The mouse's part of the state: its ranges, power-up, and when the mouse is live (document 01, "What the state holds" and "The mouse").
 use Rattle.std.specs.Prelude.{ℕ, ◌≤◌, Bool, false, cond, not, ◌&&◌}
-use Rattle.motion.specs.declared.Motions.{Motions}
+use Rattle.motion.specs.declared.Motion.{Motion}
+use Rattle.motion.specs.declared.Axes.{Axes}
 use Rattle.motion.specs.Motion.{OneSided, size, at_rest}
-use Rattle.protocol.specs.declared.Point.{Point}
 use Rattle.protocol.specs.declared.MouseMode.{MouseMode}
 use Rattle.protocol.specs.declared.MouseMode.TheVariants.{Relative, Absolute, Keycode}
 use Rattle.protocol.specs.declared.Settings.{Settings}
@@ -31,11 +31,11 @@ unfoldable pub held_most : Bool → Settings → ℕ
 held_most paused σ = cond (paused && gathers σ) held_limit held_usual
 
 -- coordinates of 0: "outside absolute mode", at power-up, and where 0x08, 0x09, 0x0A "zero the coordinates"; not the "Y origin"
-abbrev pub origin : Point
+abbrev pub origin : Axes ℕ
 origin = record { x = 0; y = 0 }
 
 -- "coordinates are 0 outside absolute mode", and never pass the maximum in it: the most that they are
-abbrev pub maximum_of : MouseMode → Point
+abbrev pub maximum_of : MouseMode → Axes ℕ
 maximum_of Relative = origin
 maximum_of (Absolute maximum) = maximum
 maximum_of (Keycode delta) = origin
@@ -65,11 +65,11 @@ abbrev pub at_power_up : Mouse
 at_power_up = record { place = origin; held = at_rest; left = false; right = false; latches = no_latches }
 
 -- coordinates put in place of those before: "zero the coordinates", "0x0E is held to the maximum."; nothing else changes
-abbrev pub with_place : Point → Mouse → Mouse
+abbrev pub with_place : Axes ℕ → Mouse → Mouse
 with_place p m = record { place = p; held = m.held; left = m.left; right = m.right; latches = m.latches }
 
 -- "held motion" put in place of what was held: with motion added, its remainder, or none; nothing else changes
-abbrev pub with_held : Motions → Mouse → Mouse
+abbrev pub with_held : Axes Motion → Mouse → Mouse
 with_held h m = record { place = m.place; held = h; left = m.left; right = m.right; latches = m.latches }
 
 -- "clear held motion"; and once "all is sent" none is held

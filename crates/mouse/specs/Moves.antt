@@ -1,9 +1,8 @@
 -- Motion of the mouse in its three modes, and what of it is due at a resume (document 01, "The mouse").
-use Rattle.std.specs.Prelude.{Bool, false, cond, ◌&&◌, ◌||◌, [], ltb, ℤ}
-use Rattle.motion.specs.declared.Motions.{Motions}
+use Rattle.std.specs.Prelude.{ℕ, Bool, false, cond, ◌&&◌, ◌||◌, [], ltb, ℤ}
+use Rattle.motion.specs.declared.Motion.{Motion}
+use Rattle.motion.specs.declared.Axes.{Axes}
 use Rattle.motion.specs.Motion.{size, at_rest, of_signed, sum, opposite, reaches, quotient, remainder, coordinate_after}
-use Rattle.protocol.specs.declared.Axes.{Axes}
-use Rattle.protocol.specs.declared.Point.{Point}
 use Rattle.protocol.specs.declared.MouseMode.{MouseMode}
 use Rattle.protocol.specs.declared.MouseMode.TheVariants.{Relative, Absolute, Keycode}
 use Rattle.protocol.specs.declared.Settings.{Settings}
@@ -19,30 +18,30 @@ negates_dy (Absolute maximum) bottom = bottom
 negates_dy (Keycode delta) bottom = false
 
 -- "Origin bottom negates dy as the event comes in, except in keycode mode."
-unfoldable pub incoming : Settings → ℤ → ℤ → Motions
+unfoldable pub incoming : Settings → ℤ → ℤ → Axes Motion
 incoming σ dx dy = record {
   x = of_signed dx;
   y = cond (negates_dy σ.mouse σ.bottom) (opposite (of_signed dy)) (of_signed dy);
 }
 
 -- "In every mode live motion is first added to the held motion."
-unfoldable pub added_to_held : Settings → ℤ → ℤ → Motions → Motions
+unfoldable pub added_to_held : Settings → ℤ → ℤ → Axes Motion → Axes Motion
 added_to_held σ dx dy held = record { x = sum held.x (incoming σ dx dy).x; y = sum held.y (incoming σ dx dy).y }
 
 -- "if either axis reaches its threshold"
-unfoldable pub either_reaches : Axes → Motions → Bool
+unfoldable pub either_reaches : Axes ℕ → Axes Motion → Bool
 either_reaches threshold d = reaches d.x (acts_as threshold.x) || reaches d.y (acts_as threshold.y)
 
 -- "divided by the scale toward zero", along both axes; in keycode mode by the deltas
-abbrev pub quotients : Axes → Motions → Motions
+abbrev pub quotients : Axes ℕ → Axes Motion → Axes Motion
 quotients scale d = record { x = quotient d.x (acts_as scale.x); y = quotient d.y (acts_as scale.y) }
 
 -- "the remainder stays": what that division leaves held, of both axes
-abbrev pub remainders : Axes → Motions → Motions
+abbrev pub remainders : Axes ℕ → Axes Motion → Axes Motion
 remainders scale d = record { x = remainder d.x (acts_as scale.x); y = remainder d.y (acts_as scale.y) }
 
 -- "each whole delta in the held motion sends a make and break pair ... the remainder stays"
-unfoldable pub send_deltas : Axes → Mouse → MouseDue
+unfoldable pub send_deltas : Axes ℕ → Mouse → MouseDue
 send_deltas delta m = record {
   sending = record {
     packets = 0;
@@ -56,7 +55,7 @@ send_deltas delta m = record {
 }
 
 -- "held motion, divided by the scale toward zero, moves the coordinate; the remainder stays"
-unfoldable pub coordinates_moved : Point → Axes → Mouse → Mouse
+unfoldable pub coordinates_moved : Axes ℕ → Axes ℕ → Mouse → Mouse
 coordinates_moved maximum scale m = record {
   place = record {
     x = coordinate_after maximum.x m.place.x (quotients scale m.held).x;
@@ -69,7 +68,7 @@ coordinates_moved maximum scale m = record {
 }
 
 -- Held motion that is due (document 01's "due"): thresholds and deltas are applied to what is held; "in absolute mode none is due".
-unfoldable pub motion_due : MouseMode → Axes → Mouse → MouseDue
+unfoldable pub motion_due : MouseMode → Axes ℕ → Mouse → MouseDue
 motion_due Relative threshold m = cond (either_reaches threshold m.held) (send_all 0 m) (quiet m)
 motion_due (Absolute maximum) threshold m = quiet m
 motion_due (Keycode delta) threshold m = send_deltas delta m

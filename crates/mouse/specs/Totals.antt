@@ -2,7 +2,7 @@
 use Rattle.std.specs.Prelude.{ℕ, Bool, cond, List, [], ◌∷◌, ℤ, pos, neg_ℤ, ◌+ℤ◌}
 use Rattle.output.specs.Packets.{Packet, scan, motion, position, time, sticks, stick, monitor, samples, status, version}
 use Rattle.motion.specs.declared.Motion.{Motion}
-use Rattle.motion.specs.declared.Motions.{Motions}
+use Rattle.motion.specs.declared.Axes.{Axes}
 use Rattle.motion.specs.Motion.{signed_byte}
 
 -- the two axes ("either axis", "per axis"): each law is stated once, over either
@@ -11,7 +11,7 @@ pub data Axis : Type 0 where
   AlongY : Axis
 
 -- the motion along an axis, as "held motion on an axis"
-abbrev pub along : Axis → Motions → Motion
+abbrev pub along : Axis → Axes Motion → Motion
 along AlongX d = d.x
 along AlongY d = d.y
 

@@ -5,78 +5,72 @@ ghost use Rattle.mouse.specs.Mouse.{origin};
 ghost use Rattle.mouse.specs.Buttons.{level, with_level, unchanged, key_of, latched, with_latch, action_reports, button_as_key, live_button, presses, gives_fire};
 ghost use Rattle.mouse.specs.Handing.{pressed_of, only_short};
 
-use crate::{Latches, Mouse, Pressed, Sending, Side};
+use crate::{Latches, Mouse, Moved, Pressed, Sending, Side};
 use output::{ScanCode, Short};
 use protocol::{MouseMode, Settings};
 
 impl Mouse {
+    #[tactic(auto, unfolding(crate::specs::Buttons::presses))]
     pub fn presses(self, settings: Settings, side: Side, down: bool) -> Pressed
         ensures { result ≡ pressed_of (presses settings side down self) }
     {
         if self.unchanged(side, down) {
-            return self.only_short(Short::none());
+            return self.only_short(Short::of([]));
         }
         let next = self.with_level(side, down);
         if !crate::live(settings) {
-            return next.only_short(Short::none());
+            return next.only_short(Short::of([]));
         }
-        let mode = settings.mouse;
-        next.live_button(mode, settings.action, side, down)
+        next.live_button(settings.mouse, settings.action, side, down)
     }
 
     // With the mouse off the right button is the fire button of stick 1, where port 0 is a mouse and no monitoring mode is on. Does this
     // event give fire, or let go of it?
+    #[tactic(auto, unfolding(crate::specs::Buttons::gives_fire))]
     pub fn gives_fire(self, settings: Settings, side: Side, down: bool) -> bool
         ensures { result ≡ gives_fire settings side down self }
     {
         match side {
             Side::Left => false,
             Side::Right => {
-                if settings.mouseon {
-                    return false;
-                }
-                let role = settings.port0;
-                if !protocol::for_mouse(role) {
-                    return false;
-                }
-                let stick = settings.stick;
-                if protocol::is_monitoring(stick) {
-                    return false;
-                }
-                !self.unchanged(side, down)
+                !settings.mouseon
+                    && settings.port0.is_mouse()
+                    && !settings.stick.is_monitoring()
+                    && !self.unchanged(side, down)
             }
         }
     }
 
     // A live button whose level has changed, in each mode.
+    #[tactic(auto, unfolding(crate::specs::Buttons::live_button))]
     fn live_button(self, mode: MouseMode, action: u8, side: Side, down: bool) -> Pressed
         ensures { result ≡ pressed_of (live_button mode action side down self) }
     {
         match mode {
             MouseMode::Relative => self.relative_button(action, side, down),
-            MouseMode::Absolute { maximum: _ } => self.absolute_button(action, side, down),
-            MouseMode::Keycode { delta: _ } => self.button_as_key(side, down),
+            MouseMode::Absolute { .. } => self.absolute_button(action, side, down),
+            MouseMode::Keycode { .. } => self.button_as_key(side, down),
         }
     }
 
     // All held motion is sent with the new levels; action 4 makes the buttons keys.
+    #[tactic(auto, unfolding(crate::specs::Buttons::live_button, crate::specs::Reports::send_all))]
     fn relative_button(self, action: u8, side: Side, down: bool) -> Pressed
         ensures { result ≡ pressed_of (live_button Relative action side down self) }
     {
         if action == 4 {
             return self.button_as_key(side, down);
         }
-        let sent = self.send_all(1);
-        let sending = sent.sending;
-        let mouse = sent.mouse;
+        let Moved { sending, mouse } = self.send_all(1);
         Pressed {
             sending,
-            short: Short::none(),
+            short: Short::of([]),
             mouse,
         }
     }
 
     // The latch is set whatever the action, which says whether a report goes out. The maximum plays no part.
+    #[tactic(auto, unfolding(crate::specs::Buttons::live_button, crate::specs::Reports::report))]
     fn absolute_button(self, action: u8, side: Side, down: bool) -> Pressed
         ensures { result ≡ pressed_of (live_button (Absolute origin) action side down self) }
     {
@@ -85,16 +79,17 @@ impl Mouse {
             return next.button_as_key(side, down);
         }
         if action_reports(action, down) {
-            return next.only_short(next.report());
+            next.only_short(next.report())
+        } else {
+            next.only_short(Short::of([]))
         }
-        next.only_short(Short::none())
     }
 
     // A button as a key.
     fn button_as_key(self, side: Side, down: bool) -> Pressed
         ensures { result ≡ pressed_of (button_as_key side down self) }
     {
-        self.only_short(Short::one(output::code_sent(key_of(side), down)))
+        self.only_short(Short::of([output::code_sent(key_of(side), down)]))
     }
 
     // Nothing goes out but a short run of bytes.
@@ -112,11 +107,7 @@ impl Mouse {
     fn unchanged(self, side: Side, down: bool) -> bool
         ensures { result ≡ unchanged side down self }
     {
-        let was = self.level(side);
-        if down {
-            return was;
-        }
-        !was
+        self.level(side) == down
     }
 
     fn level(self, side: Side) -> bool
@@ -141,8 +132,7 @@ impl Mouse {
     fn with_latch(mut self, side: Side, down: bool) -> Mouse
         ensures { result ≡ with_latch side down self }
     {
-        let latches = self.latches;
-        self.latches = latches.latched(side, down);
+        self.latches = self.latches.latched(side, down);
         self
     }
 }
@@ -160,21 +150,11 @@ impl Latches {
     fn latched(mut self, side: Side, down: bool) -> Self
         ensures { result ≡ latched side down self }
     {
-        match side {
-            Side::Left => {
-                if down {
-                    self.leftdown = true;
-                } else {
-                    self.leftup = true;
-                }
-            }
-            Side::Right => {
-                if down {
-                    self.rightdown = true;
-                } else {
-                    self.rightup = true;
-                }
-            }
+        match (side, down) {
+            (Side::Left, true) => self.leftdown = true,
+            (Side::Left, false) => self.leftup = true,
+            (Side::Right, true) => self.rightdown = true,
+            (Side::Right, false) => self.rightup = true,
         }
         self
     }
@@ -185,7 +165,8 @@ fn action_reports(action: u8, down: bool) -> bool
     ensures { result ≡ action_reports action down }
 {
     if down {
-        return action % 2 == 1;
+        action % 2 == 1
+    } else {
+        action / 2 % 2 == 1
     }
-    action / 2 % 2 == 1
 }

@@ -6,28 +6,29 @@ ghost use Rattle.mouse.specs.Commands.{started_anew, loaded, commanded, switched
 ghost use Rattle.mouse.specs.Handing.{commanded_of};
 
 use crate::{Commanded, Mouse};
-use motion::Motions;
+use motion::{Axes, Motions};
 use output::Short;
-use protocol::{MouseCommand, MouseMode, Point};
+use protocol::{MouseCommand, MouseMode};
 
 impl Mouse {
+    #[tactic(auto, unfolding(crate::specs::Commands::commanded, crate::specs::Reports::report))]
     pub fn commanded(self, c: MouseCommand, params: [u8; 6], mode: MouseMode) -> Commanded
         ensures { result ≡ commanded_of (commanded c params mode self) }
     {
         match c {
-            MouseCommand::SetAction => self.silent(),
-            MouseCommand::SetRelative => self.started_anew().silent(),
-            MouseCommand::SetAbsolute => self.started_anew().silent(),
-            MouseCommand::SetKeycode => self.started_anew().silent(),
-            MouseCommand::SetThreshold => self.silent(),
-            MouseCommand::SetScale => self.silent(),
+            MouseCommand::SetRelative | MouseCommand::SetAbsolute | MouseCommand::SetKeycode => {
+                self.started_anew().silent()
+            }
             MouseCommand::ReportPosition => Commanded {
                 short: self.report(),
                 mouse: self.cleared(),
             },
             MouseCommand::LoadPosition => self.loaded(maximum_of(mode), params).silent(),
-            MouseCommand::OriginBottom => self.silent(),
-            MouseCommand::OriginTop => self.silent(),
+            MouseCommand::SetAction
+            | MouseCommand::SetThreshold
+            | MouseCommand::SetScale
+            | MouseCommand::OriginBottom
+            | MouseCommand::OriginTop => self.silent(),
         }
     }
 
@@ -50,7 +51,7 @@ impl Mouse {
         ensures { result ≡ commanded_of (quiet self) }
     {
         Commanded {
-            short: Short::none(),
+            short: Short::of([]),
             mouse: self,
         }
     }
@@ -59,31 +60,28 @@ impl Mouse {
     fn started_anew(mut self) -> Self
         ensures { result ≡ started_anew self }
     {
-        let place = Point { x: 0, y: 0 };
-        self.place = place;
+        self.place = Axes { x: 0, y: 0 };
         self.without_motion()
     }
 
     // 0x0E, held to the maximum; its first parameter is a filler.
-    fn loaded(mut self, maximum: Point, params: [u8; 6]) -> Self
+    fn loaded(mut self, maximum: Axes<u16>, params: [u8; 6]) -> Self
         ensures { result ≡ loaded maximum params self }
     {
-        let place = Point {
-            x: motion::smaller(maximum.x, protocol::word(params[1], params[2])),
-            y: motion::smaller(maximum.y, protocol::word(params[3], params[4])),
+        self.place = Axes {
+            x: maximum.x.min(u16::from_be_bytes([params[1], params[2]])),
+            y: maximum.y.min(u16::from_be_bytes([params[3], params[4]])),
         };
-        self.place = place;
         self
     }
 }
 
 // The most that the coordinates are: 0 outside absolute mode.
-fn maximum_of(mode: MouseMode) -> Point
+fn maximum_of(mode: MouseMode) -> Axes<u16>
     ensures { result ≡ maximum_of mode }
 {
     match mode {
-        MouseMode::Relative => Point { x: 0, y: 0 },
         MouseMode::Absolute { maximum } => maximum,
-        MouseMode::Keycode { delta: _ } => Point { x: 0, y: 0 },
+        MouseMode::Relative | MouseMode::Keycode { .. } => Axes { x: 0, y: 0 },
     }
 }

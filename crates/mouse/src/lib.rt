@@ -4,9 +4,9 @@
 ghost use Rattle.std.specs.Prelude.{◌≡◌};
 ghost use Rattle.mouse.specs.Mouse.{at_power_up, live, no_latches};
 
-use motion::Motions;
+use motion::{Axes, Motions};
 use output::Short;
-use protocol::{Point, Settings};
+use protocol::Settings;
 
 mod button;
 mod command;
@@ -15,7 +15,7 @@ mod report;
 mod send;
 
 // Which buttons went down or up, live in absolute mode, since the last 0x0D or clearing.
-#[derive(Clone, Copy)]
+#[derive(Clone, Copy, Debug, PartialEq, Eq)]
 pub struct Latches {
     pub rightdown: bool,
     pub rightup: bool,
@@ -23,9 +23,9 @@ pub struct Latches {
     pub leftup: bool,
 }
 
-#[derive(Clone, Copy)]
+#[derive(Clone, Copy, Debug, PartialEq, Eq)]
 pub struct Mouse {
-    pub place: Point,
+    pub place: Axes<u16>,
     pub held: Motions,
     pub left: bool,
     pub right: bool,
@@ -33,15 +33,16 @@ pub struct Mouse {
 }
 
 // The two buttons of the mouse.
-#[derive(Clone, Copy)]
+#[derive(Clone, Copy, Debug, PartialEq, Eq)]
 pub enum Side {
     Left,
     Right,
 }
 
 // What is sent of held motion: `packets` packets of `held` with these button levels, and arrow keys, of which there are none where
-// there are packets. Whoever writes it asks its length first.
-#[derive(Clone, Copy)]
+// there are packets. Whoever writes it asks its length first. No enum of the two: `packets_sent` gives the packets and the arrows of any
+// value, one after the other.
+#[derive(Clone, Copy, Debug, PartialEq, Eq)]
 pub struct Sending {
     pub packets: u16,
     pub left: bool,
@@ -51,14 +52,14 @@ pub struct Sending {
 }
 
 // What motion, or a resume, comes to.
-#[derive(Clone, Copy)]
+#[derive(Clone, Copy, Debug, PartialEq, Eq)]
 pub struct Moved {
     pub sending: Sending,
     pub mouse: Mouse,
 }
 
 // What a button comes to: held motion is sent, or a short packet, or nothing.
-#[derive(Clone, Copy)]
+#[derive(Clone, Copy, Debug, PartialEq, Eq)]
 pub struct Pressed {
     pub sending: Sending,
     pub short: Short,
@@ -66,7 +67,7 @@ pub struct Pressed {
 }
 
 // What a command of the mouse comes to.
-#[derive(Clone, Copy)]
+#[derive(Clone, Copy, Debug, PartialEq, Eq)]
 pub struct Commanded {
     pub short: Short,
     pub mouse: Mouse,
@@ -80,7 +81,7 @@ impl Mouse {
         ensures { result ≡ at_power_up }
     {
         Mouse {
-            place: Point { x: 0, y: 0 },
+            place: Axes { x: 0, y: 0 },
             held: Motions::at_rest(),
             left: false,
             right: false,
@@ -103,16 +104,9 @@ impl Latches {
 }
 
 // Live: on, port 0 a mouse, and not monitoring.
+#[tactic(auto, unfolding(crate::specs::Mouse::live))]
 pub fn live(settings: Settings) -> bool
     ensures { result ≡ live settings }
 {
-    if !settings.mouseon {
-        return false;
-    }
-    let role = settings.port0;
-    if !protocol::for_mouse(role) {
-        return false;
-    }
-    let stick = settings.stick;
-    !protocol::is_monitoring(stick)
+    settings.mouseon && settings.port0.is_mouse() && !settings.stick.is_monitoring()
 }

@@ -8,31 +8,25 @@ ghost use Rattle.mouse.specs.Moves.{negates_dy, incoming, added_to_held, either_
 ghost use Rattle.mouse.specs.Handing.{moved_of};
 
 use crate::{Mouse, Moved, Sending};
-use motion::{Motion, Motions};
-use protocol::{Axes, MouseMode, Point, Settings};
+use motion::{Axes, Motion, Motions};
+use protocol::{MouseMode, Settings};
 
 impl Mouse {
     // Would held motion along an axis leave its limit?
+    #[tactic(auto, unfolding(crate::specs::Moves::overflows, crate::specs::Mouse::gathers))]
     pub fn overflows(self, settings: Settings, dx: i16, dy: i16) -> bool
         requires { WithinLimit self }
         ensures { result ≡ overflows settings dx dy self }
     {
-        if !crate::live(settings) {
-            return false;
-        }
-        let mode = settings.mouse;
-        if protocol::is_absolute(mode) {
+        if !crate::live(settings) || settings.mouse.is_absolute() {
             return false;
         }
         let held = added_to_held(settings, dx, dy, self.held);
-        let x = held.x;
-        if (Mouse::HELD_LIMIT as u32) < x.size() {
-            return true;
-        }
-        let y = held.y;
-        (Mouse::HELD_LIMIT as u32) < y.size()
+        let most = Mouse::HELD_LIMIT as u32;
+        most < held.x.size() || most < held.y.size()
     }
 
+    #[tactic(auto, unfolding(crate::specs::Moves::moves))]
     pub fn moves(mut self, paused: bool, settings: Settings, dx: i16, dy: i16) -> Moved
         requires { WithinLimit self }
         ensures { result ≡ moved_of (moves paused settings dx dy self) }
@@ -41,54 +35,42 @@ impl Mouse {
             return self.stays();
         }
         self.held = added_to_held(settings, dx, dy, self.held);
-        let mode = settings.mouse;
-        self.live_motion(mode, paused, settings)
+        self.live_motion(settings.mouse, paused, settings)
     }
 
     // Held motion that is due at a resume.
+    #[tactic(auto, unfolding(crate::specs::Moves::released))]
     pub fn resumes(self, paused: bool, settings: Settings) -> Moved
         ensures { result ≡ moved_of (resumed paused settings self) }
     {
-        if !paused {
+        if !paused || !crate::live(settings) {
             return self.stays();
         }
-        if !crate::live(settings) {
-            return self.stays();
-        }
-        let mode = settings.mouse;
-        self.motion_due(mode, settings.threshold)
+        self.motion_due(settings.mouse, settings.threshold)
     }
 
     // Motion, once it is held, in each mode.
+    #[tactic(auto, unfolding(crate::specs::Moves::live_motion))]
     fn live_motion(self, mode: MouseMode, paused: bool, settings: Settings) -> Moved
         ensures { result ≡ moved_of (live_motion mode paused settings self) }
     {
         match mode {
-            MouseMode::Relative => {
-                if paused {
-                    return self.stays();
-                }
-                self.reached(settings.threshold)
-            }
             MouseMode::Absolute { maximum } => self
                 .coordinates_moved(maximum, settings.scale)
                 .stays(),
-            MouseMode::Keycode { delta } => {
-                if paused {
-                    return self.stays();
-                }
-                self.send_deltas(delta)
-            }
+            _ if paused => self.stays(),
+            _ => self.motion_due(mode, settings.threshold),
         }
     }
 
     // Held motion that is due, in each mode.
-    fn motion_due(self, mode: MouseMode, threshold: Axes) -> Moved
+    #[tactic(auto, unfolding(crate::specs::Moves::motion_due))]
+    fn motion_due(self, mode: MouseMode, threshold: Axes<u8>) -> Moved
         ensures { result ≡ moved_of (motion_due mode threshold self) }
     {
         match mode {
             MouseMode::Relative => self.reached(threshold),
-            MouseMode::Absolute { maximum: _ } => self.stays(),
+            MouseMode::Absolute { .. } => self.stays(),
             MouseMode::Keycode { delta } => self.send_deltas(delta),
         }
     }
@@ -104,25 +86,26 @@ impl Mouse {
     }
 
     // Where either axis reaches its threshold, all is sent.
-    fn reached(self, threshold: Axes) -> Moved
+    #[tactic(auto, unfolding(crate::specs::Moves::motion_due))]
+    fn reached(self, threshold: Axes<u8>) -> Moved
         ensures { result ≡ moved_of (motion_due Relative threshold self) }
     {
         if either_reaches(threshold, self.held) {
-            return self.send_all(0);
+            self.send_all(0)
+        } else {
+            self.stays()
         }
-        self.stays()
     }
 
     // All held motion, in `least` packets at least.
+    #[tactic(auto, unfolding(crate::specs::Reports::send_all))]
     pub(crate) fn send_all(self, least: u16) -> Moved
         ensures { result ≡ moved_of (send_all least self) }
     {
         let held = self.held;
-        let x = held.x;
-        let y = held.y;
-        let n = motion::larger(x.packets_needed(), y.packets_needed());
+        let n = held.x.packets_needed().max(held.y.packets_needed());
         let sending = Sending {
-            packets: motion::larger(least, n),
+            packets: least.max(n),
             left: self.left,
             right: self.right,
             held,
@@ -133,7 +116,8 @@ impl Mouse {
     }
 
     // Whole deltas become arrow keys, and the remainder stays held.
-    fn send_deltas(mut self, delta: Axes) -> Moved
+    #[tactic(auto, unfolding(crate::specs::Moves::send_deltas))]
+    fn send_deltas(mut self, delta: Axes<u8>) -> Moved
         ensures { result ≡ moved_of (send_deltas delta self) }
     {
         let sending = Sending {
@@ -150,90 +134,67 @@ impl Mouse {
         }
     }
 
-    // Held motion moves the coordinates, by its scale; the remainder stays held.
-    fn coordinates_moved(mut self, maximum: Point, scale: Axes) -> Mouse
+    // Held motion moves the coordinates, by its scale; the remainder stays held. Three values meet along each axis, so `zip_with` would be
+    // no plainer for them.
+    #[tactic(auto, unfolding(crate::specs::Moves::coordinates_moved))]
+    fn coordinates_moved(mut self, maximum: Axes<u16>, scale: Axes<u8>) -> Mouse
         ensures { result ≡ coordinates_moved maximum scale self }
     {
         let steps = quotients(scale, self.held);
-        let x = steps.x;
-        let y = steps.y;
-        let place = Point {
-            x: x.coordinate_after(maximum.x, self.place.x),
-            y: y.coordinate_after(maximum.y, self.place.y),
+        self.place = Axes {
+            x: steps.x.coordinate_after(maximum.x, self.place.x),
+            y: steps.y.coordinate_after(maximum.y, self.place.y),
         };
-        self.place = place;
         self.held = remainders(scale, self.held);
         self
     }
 }
 
 // Held motion with what an event brings.
+#[tactic(auto, unfolding(crate::specs::Moves::added_to_held))]
 fn added_to_held(settings: Settings, dx: i16, dy: i16, held: Motions) -> Motions
     requires { (size held.x ≤ held_limit) × (size held.y ≤ held_limit) }
     ensures { result ≡ added_to_held settings dx dy held }
 {
-    let d = incoming(settings, dx, dy);
-    let x = held.x;
-    let y = held.y;
-    Motions {
-        x: x.add(d.x),
-        y: y.add(d.y),
-    }
+    held.zip_with(incoming(settings, dx, dy), |m, d| m.add(d))
 }
 
 // What an event brings: origin bottom negates dy, except in keycode mode.
+#[tactic(auto, unfolding(crate::specs::Moves::incoming))]
 fn incoming(settings: Settings, dx: i16, dy: i16) -> Motions
-    ensures { result ≡ incoming settings dx dy }
+    ensures did { result ≡ incoming settings dx dy }
+    ensures far { (size result.x ≤ 32768) × (size result.y ≤ 32768) }
 {
     let x = Motion::of_signed(dx);
     let y = Motion::of_signed(dy);
-    let mode = settings.mouse;
-    if negates_dy(mode, settings.bottom) {
-        let turned = y.opposite();
-        return Motions { x, y: turned };
+    if negates_dy(settings.mouse, settings.bottom) {
+        Axes { x, y: y.opposite() }
+    } else {
+        Axes { x, y }
     }
-    Motions { x, y }
 }
 
 fn negates_dy(mode: MouseMode, bottom: bool) -> bool
     ensures { result ≡ negates_dy mode bottom }
 {
-    match mode {
-        MouseMode::Relative => bottom,
-        MouseMode::Absolute { maximum: _ } => bottom,
-        MouseMode::Keycode { delta: _ } => false,
-    }
+    bottom && !matches!(mode, MouseMode::Keycode { .. })
 }
 
-fn either_reaches(threshold: Axes, d: Motions) -> bool
+#[tactic(auto, unfolding(crate::specs::Moves::either_reaches))]
+fn either_reaches(threshold: Axes<u8>, d: Motions) -> bool
     ensures { result ≡ either_reaches threshold d }
 {
-    let x = d.x;
-    if x.reaches(protocol::acts_as(threshold.x)) {
-        return true;
-    }
-    let y = d.y;
-    y.reaches(protocol::acts_as(threshold.y))
+    d.x.reaches(protocol::acts_as(threshold.x)) || d.y.reaches(protocol::acts_as(threshold.y))
 }
 
-fn quotients(scale: Axes, d: Motions) -> Motions
+fn quotients(scale: Axes<u8>, d: Motions) -> Motions
     ensures { result ≡ quotients scale d }
 {
-    let x = d.x;
-    let y = d.y;
-    Motions {
-        x: x.quotient(protocol::acts_as(scale.x)),
-        y: y.quotient(protocol::acts_as(scale.y)),
-    }
+    d.zip_with(scale, |m, s| m.quotient(protocol::acts_as(s)))
 }
 
-fn remainders(scale: Axes, d: Motions) -> Motions
+fn remainders(scale: Axes<u8>, d: Motions) -> Motions
     ensures { result ≡ remainders scale d }
 {
-    let x = d.x;
-    let y = d.y;
-    Motions {
-        x: x.remainder(protocol::acts_as(scale.x)),
-        y: y.remainder(protocol::acts_as(scale.y)),
-    }
+    d.zip_with(scale, |m, s| m.remainder(protocol::acts_as(s)))
 }

@@ -9,25 +9,13 @@ use output::Short;
 
 impl Mouse {
     // Latches and coordinates, high bytes first. Nothing is cleared by it.
+    #[tactic(auto, unfolding(crate::specs::Reports::report))]
     pub fn report(self) -> Short
         ensures { result ≡ short_of (bytes_of (report self)) }
     {
-        let x = self.place.x;
-        let y = self.place.y;
-        let l = latch_byte(self.latches);
-        Short {
-            bytes: [
-                0xF7,
-                l,
-                (x / 256) as u8,
-                (x % 256) as u8,
-                (y / 256) as u8,
-                (y % 256) as u8,
-                0,
-                0,
-            ],
-            len: 6,
-        }
+        let [xh, xl] = self.place.x.to_be_bytes();
+        let [yh, yl] = self.place.y.to_be_bytes();
+        Short::of([0xF7, self.latches.byte(), xh, xl, yh, yl])
     }
 
     // No latch is set any more, and nothing else changes.
@@ -39,9 +27,14 @@ impl Mouse {
     }
 }
 
-// 1 right down, 2 right up, 4 left down, 8 left up.
-fn latch_byte(l: Latches) -> u8
-    ensures { result ≡ latch_byte l }
-{
-    l.rightdown as u8 + 2 * l.rightup as u8 + 4 * l.leftdown as u8 + 8 * l.leftup as u8
+impl Latches {
+    // 1 right down, 2 right up, 4 left down, 8 left up.
+    pub fn byte(self) -> u8
+        ensures { result ≡ latch_byte self }
+    {
+        u8::from(self.rightdown)
+            + 2 * u8::from(self.rightup)
+            + 4 * u8::from(self.leftdown)
+            + 8 * u8::from(self.leftup)
+    }
 }

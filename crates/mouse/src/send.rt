@@ -22,6 +22,7 @@ impl Sending {
         }
     }
 
+    #[tactic(auto, using(crate::proofs::Lengths::sent_length))]
     pub fn len(self) -> usize
         ensures { result ≡ length (bytes (packets_sent self)) }
     {
@@ -30,6 +31,7 @@ impl Sending {
         3 * self.packets as usize + 2 * steps
     }
 
+    #[tactic(auto, using(output::proofs::Writing::kept, crate::proofs::Lengths::split_length, crate::proofs::Lengths::arrows_length, crate::proofs::Lengths::sent_length))]
     pub fn write(self, out: &mut [u8]) -> usize
         requires { length (bytes (packets_sent self)) ≤ length out.old }
         ensures { Wrote (bytes (packets_sent self)) result out.old out.new }
@@ -57,19 +59,17 @@ fn write_packets(n: u16, left: bool, right: bool, held: Motions, out: &mut [u8])
     let first = header(left, right);
     let mut x = held.x.spread(n);
     let mut y = held.y.spread(n);
-    let mut rest = n;
     let mut at = 0;
-    while 0 < rest {
-        let k = output::put3(first, x.byte(), y.byte(), &mut out[at..]);
+    for _ in 0..n {
+        at += output::put3(first, x.byte(), y.byte(), &mut out[at..]);
         x = x.next();
         y = y.next();
-        at += k;
-        rest -= 1;
     }
     at
 }
 
 // All X first: right, left, down, up.
+#[tactic(auto, using(output::proofs::Writing::kept, crate::proofs::Sends::axis_length))]
 fn write_arrows(d: Motions, out: &mut [u8]) -> usize
     requires { 2 * (size d.x + size d.y) ≤ length out.old }
     ensures { Wrote (bytes (arrows d)) result out.old out.new }
@@ -79,6 +79,7 @@ fn write_arrows(d: Motions, out: &mut [u8]) -> usize
 }
 
 // One side of the axis is 0.
+#[tactic(auto, using(output::proofs::Writing::kept, output::proofs::Packets::pairs_length))]
 fn write_axis(d: Motion, forth: u8, back: u8, out: &mut [u8]) -> usize
     requires { (2 * size d ≤ length out.old) × (forth ≤ 0x7F) × (back ≤ 0x7F) }
     ensures { Wrote (bytes (pairs d.plus forth ++ pairs d.minus back)) result out.old out.new }

@@ -8,7 +8,7 @@ use mathlib.Core.List.{List}
 use lib.ListN.{get_or}
 use borrow.Author.Tests.{leb-true, lt-leb, le-leb}
 use Rattle.output.proofs.Cases.{both_ways}
-use Rattle.protocol.specs.declared.Axes.{Axes}
+use Rattle.motion.specs.declared.Axes.{Axes}
 use Rattle.protocol.specs.declared.MouseMode.{MouseMode}
 use Rattle.protocol.specs.declared.MouseMode.TheVariants.{Relative, Absolute, Keycode}
 use Rattle.protocol.specs.declared.StickMode.{StickMode}
@@ -40,7 +40,7 @@ power_up_is = record {
 }
 
 -- and so are settings of values that each are within theirs
-settings_of_is : {m : MouseMode} {a : ℕ} {t s : Axes} {b mo ko : Bool} {k : StickMode} {r : Role} →
+settings_of_is : {m : MouseMode} {a : ℕ} {t s : Axes ℕ} {b mo ko : Bool} {k : StickMode} {r : Role} →
     IsMouseMode m → a ≤ most_action → IsAxes t → IsAxes s → IsStickMode k → IsSettings (settings_of m a t s b mo k ko r)
 settings_of_is m a t s k = record { mouse = m; action = a; threshold = t; scale = s; stick = k }
 

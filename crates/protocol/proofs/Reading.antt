@@ -3,17 +3,16 @@
 use Prim.Native.Nat.{ℕ, zero, suc, ◌+◌, ◌-◌, ◌≤◌, ◌<◌}
 use native.Mathlib.Omega.{arith}
 use mathlib.Core.Path.{◌≡◌, refl, sym, ap, ◌∙◌, subst}
-use mathlib.Core.Bool.{Bool, true, false, cond, ◌&&◌, true≢false}
+use mathlib.Core.Bool.{Bool, true, false, cond, ◌&&◌}
 use mathlib.Core.List.{List, [], ◌∷◌}
 use lib.Dec.{eqb, leb, ltb}
 use lib.ListN.{length, get_or, set, drop, replicate, length-set}
 use lib.Seq.{drop-set-lt, drop-drop, get_or-set_same}
 use borrow.Author.Tests.{ltb-true, ltb-false, leb-true, eqb-true, eqb-false, eq-eqb, ne_eqb}
 use Rattle.protocol.specs.declared.Command.{Command}
-use Rattle.protocol.specs.declared.Received.{Received}
 use Rattle.protocol.specs.declared.Meaning.TheVariants.{Nothing}
 use Rattle.protocol.specs.Codes.{Entry, entry, table, find, line, parameters_of, memory_load}
-use Rattle.protocol.specs.Reading.{most_parameters, zeros, no_command, Fed, half, whole, begin, take_parameter, take_data, feed, command_after, AllBytes, missing, data_told, IsCommand, OneCommand, received_of}
+use Rattle.protocol.specs.Reading.{most_parameters, zeros, no_command, Fed, half, whole, begin, take_parameter, take_data, feed, command_after, AllBytes, missing, data_told, IsCommand, OneCommand}
 
 -- both ways of a test, each with what it tells
 both_ways : {A : Type 0} (P : A → Type 0) (t : Bool) {a b : A} → (t ≡ true → P a) → (t ≡ false → P b) → P (cond t a b)
@@ -173,17 +172,3 @@ pub command_is : (f : Fed) → Fine f → IsCommand (command_after f) × OneComm
 unfolding command_after
 command_is (half c) h = h
 command_is (whole code ps) h = (no_command_is, no_command_one)
-
--- what the code hands on tells what the byte came to
-pub when_whole : (f : Fed) (r : Received) → r ≡ received_of f → r.whole ≡ true → f ≡ whole r.code r.params
-when_whole (half c) r e t = absurd (true≢false (sym t ∙ ap (λ (x : Received). x.whole) e))
-when_whole (whole code ps) r e t = subst (λ (x : Received). whole code ps ≡ whole x.code x.params) (sym e) refl
-
-pub when_half : (f : Fed) (r : Received) → r ≡ received_of f → r.whole ≡ false → f ≡ half r.command
-when_half (half c) r e t = subst (λ (x : Received). half c ≡ half x.command) (sym e) refl
-when_half (whole code ps) r e t = absurd (true≢false (sym (ap (λ (x : Received). x.whole) e) ∙ t))
-
-pub received_command : (f : Fed) (r : Received) → r ≡ received_of f → r.command ≡ command_after f
-unfolding command_after
-received_command (half c) r e = ap (λ (x : Received). x.command) e
-received_command (whole code ps) r e = ap (λ (x : Received). x.command) e

@@ -1,8 +1,7 @@
 -- Which whole commands are executed, and what they do to the settings (document 01, "Reading commands").
 -- Nothing here sees more than the settings, the command and its parameters. What commands do to the rest of the state is said with the rest.
 use Rattle.std.specs.Prelude.{ℕ, ◌+◌, ◌*◌, Bool, true, false, cond, not, ◌&&◌, List, eqb, leb, get_or}
-use Rattle.protocol.specs.declared.Axes.{Axes}
-use Rattle.protocol.specs.declared.Point.{Point}
+use Rattle.motion.specs.declared.Axes.{Axes}
 use Rattle.protocol.specs.declared.MouseMode.{MouseMode}
 use Rattle.protocol.specs.declared.MouseMode.TheVariants.{Relative, Absolute, Keycode}
 use Rattle.protocol.specs.declared.StickMode.{StickMode}
@@ -69,15 +68,15 @@ abbrev pub leave_monitoring : StickMode → StickMode
 leave_monitoring k = cond (monitors k) Event k
 
 -- two parameter bytes, X and then Y
-abbrev pub axes_at : ℕ → List ℕ → Axes
+abbrev pub axes_at : ℕ → List ℕ → Axes ℕ
 axes_at i ps = record { x = get_or ps i 0; y = get_or ps (i + 1) 0 }
 
 -- four parameter bytes: X and then Y, each high byte first
-abbrev pub point_at : ℕ → List ℕ → Point
+abbrev pub point_at : ℕ → List ℕ → Axes ℕ
 point_at i ps = record { x = 256 * get_or ps i 0 + get_or ps (i + 1) 0; y = 256 * get_or ps (i + 2) 0 + get_or ps (i + 3) 0 }
 
 -- all nine settings, in the order of "What the state holds"
-abbrev pub settings_of : MouseMode → ℕ → Axes → Axes → Bool → Bool → StickMode → Bool → Role → Settings
+abbrev pub settings_of : MouseMode → ℕ → Axes ℕ → Axes ℕ → Bool → Bool → StickMode → Bool → Role → Settings
 settings_of m a t s b mo k ko r = record { mouse = m; action = a; threshold = t; scale = s; bottom = b; mouseon = mo; stick = k; stickson = ko; port0 = r }
 
 -- 0x07: the action put in place of the one before
@@ -85,11 +84,11 @@ abbrev pub with_action : ℕ → Settings → Settings
 with_action a σ = settings_of σ.mouse a σ.threshold σ.scale σ.bottom σ.mouseon σ.stick σ.stickson σ.port0
 
 -- 0x0B, "kept in every mouse mode": the threshold put in place of the one before
-abbrev pub with_threshold : Axes → Settings → Settings
+abbrev pub with_threshold : Axes ℕ → Settings → Settings
 with_threshold t σ = settings_of σ.mouse σ.action t σ.scale σ.bottom σ.mouseon σ.stick σ.stickson σ.port0
 
 -- 0x0C, "kept in every mouse mode": the scale put in place of the one before
-abbrev pub with_scale : Axes → Settings → Settings
+abbrev pub with_scale : Axes ℕ → Settings → Settings
 with_scale s σ = settings_of σ.mouse σ.action σ.threshold s σ.bottom σ.mouseon σ.stick σ.stickson σ.port0
 
 -- 0x0F and 0x10: the "Y origin" put at the bottom (true) or the top

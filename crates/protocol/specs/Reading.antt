@@ -1,5 +1,5 @@
 -- How bytes become commands: "A command acts on its last byte."
-use Rattle.std.specs.Prelude.{ℕ, ◌+◌, ◌-◌, ◌≤◌, ◌≡◌, true, false, cond, ◌&&◌, List, [], ◌∷◌, eqb, ltb, length, get_or, set, drop, replicate}
+use Rattle.std.specs.Prelude.{ℕ, ◌+◌, ◌-◌, ◌≤◌, ◌≡◌, cond, ◌&&◌, List, [], ◌∷◌, eqb, ltb, length, get_or, set, drop, replicate, Some, None}
 use Rattle.protocol.specs.declared.Command.{Command}
 use Rattle.protocol.specs.declared.Received.{Received}
 use Rattle.protocol.specs.Codes.{parameters_of, memory_load}
@@ -83,5 +83,5 @@ OneCommand c = drop c.come c.params ≡ replicate (most_parameters - c.come) 0
 
 -- how the code hands on what a byte came to
 abbrev pub received_of : Fed → Received
-received_of (half c) = record { whole = false; code = 0; params = zeros; command = c }
-received_of (whole code params) = record { whole = true; code = code; params = params; command = no_command }
+received_of (half c) = record { command = c; whole = None }
+received_of (whole code params) = record { command = no_command; whole = Some (record { code = code; params = params }) }

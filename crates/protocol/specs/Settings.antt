@@ -1,7 +1,6 @@
 -- The settings: their ranges, power-up, and what their numbers tell (document 01, "What the state holds").
 use Rattle.std.specs.Prelude.{ℕ, ◌≤◌, max, Bool, true, false}
-use Rattle.protocol.specs.declared.Axes.{Axes}
-use Rattle.protocol.specs.declared.Point.{Point}
+use Rattle.motion.specs.declared.Axes.{Axes}
 use Rattle.protocol.specs.declared.Repeat.{Repeat}
 use Rattle.protocol.specs.declared.MouseMode.{MouseMode}
 use Rattle.protocol.specs.declared.MouseMode.TheVariants.{Relative, Absolute, Keycode}
@@ -12,12 +11,12 @@ use Rattle.protocol.specs.declared.Role.TheVariants.{ForMouse, ForJoystick}
 use Rattle.protocol.specs.declared.Settings.{Settings}
 
 -- "a setting's numbers are those that its command's bytes can carry": a byte each for thresholds, scales and deltas
-pub record IsAxes (a : Axes) : Type 0 where
+pub record IsAxes (a : Axes ℕ) : Type 0 where
   pub x : a.x ≤ 255
   pub y : a.y ≤ 255
 
 -- the same for "maximum X, Y", of two bytes each
-pub record IsPoint (p : Point) : Type 0 where
+pub record IsPoint (p : Axes ℕ) : Type 0 where
   pub x : p.x ≤ 65535
   pub y : p.y ≤ 65535
 

@@ -1,5 +1,6 @@
-// The command codes: how many parameter bytes follow each, and what it means (document 01, "Reading commands").
+// The command codes: how many parameter bytes follow each, and what it means. Other codes have none and do nothing.
 ghost use Rattle.std.specs.Prelude.{◌≡◌, ◌≤◌};
+ghost use Rattle.protocol.specs.declared.Meaning.TheVariants.{OfMouse, OfStick};
 ghost use Rattle.protocol.specs.Codes.{parameters_of, meaning_of};
 
 use crate::{Inquiry, Meaning, MouseCommand, OtherCommand, StickCommand};
@@ -20,51 +21,54 @@ const PARAMETERS: [u8; 35] = [
     2, // 0x22
 ];
 
+#[tactic(auto, unfolding(crate::specs::Codes::table, crate::specs::Codes::find, crate::specs::Codes::line))]
 pub fn parameters_of(code: u8) -> u8
     ensures { result ≡ parameters_of code }
 {
     if code <= 0x22 {
-        let at = code as usize;
-        return PARAMETERS[at];
+        return PARAMETERS[code as usize];
     }
     if code == 0x80 { 1 } else { 0 }
 }
 
-// The second level of `meaning_of`: each function is asked only for its own range of codes.
-fn mouse_meaning(code: u8) -> Meaning
+// Each of the next three functions is asked only for its own range of codes.
+#[tactic(auto, unfolding(crate::specs::Codes::table, crate::specs::Codes::find, crate::specs::Codes::line))]
+fn mouse_command(code: u8) -> MouseCommand
     requires { (0x07 ≤ code) × (code ≤ 0x10) }
-    ensures { result ≡ meaning_of code }
+    ensures { OfMouse result ≡ meaning_of code }
 {
     match code {
-        0x07 => Meaning::OfMouse(MouseCommand::SetAction),
-        0x08 => Meaning::OfMouse(MouseCommand::SetRelative),
-        0x09 => Meaning::OfMouse(MouseCommand::SetAbsolute),
-        0x0A => Meaning::OfMouse(MouseCommand::SetKeycode),
-        0x0B => Meaning::OfMouse(MouseCommand::SetThreshold),
-        0x0C => Meaning::OfMouse(MouseCommand::SetScale),
-        0x0D => Meaning::OfMouse(MouseCommand::ReportPosition),
-        0x0E => Meaning::OfMouse(MouseCommand::LoadPosition),
-        0x0F => Meaning::OfMouse(MouseCommand::OriginBottom),
-        _ => Meaning::OfMouse(MouseCommand::OriginTop),
+        0x07 => MouseCommand::SetAction,
+        0x08 => MouseCommand::SetRelative,
+        0x09 => MouseCommand::SetAbsolute,
+        0x0A => MouseCommand::SetKeycode,
+        0x0B => MouseCommand::SetThreshold,
+        0x0C => MouseCommand::SetScale,
+        0x0D => MouseCommand::ReportPosition,
+        0x0E => MouseCommand::LoadPosition,
+        0x0F => MouseCommand::OriginBottom,
+        _ => MouseCommand::OriginTop,
     }
 }
 
-fn stick_meaning(code: u8) -> Meaning
+#[tactic(auto, unfolding(crate::specs::Codes::table, crate::specs::Codes::find, crate::specs::Codes::line))]
+fn stick_command(code: u8) -> StickCommand
     requires { (0x14 ≤ code) × (code ≤ 0x1A) }
-    ensures { result ≡ meaning_of code }
+    ensures { OfStick result ≡ meaning_of code }
 {
     match code {
-        0x14 => Meaning::OfStick(StickCommand::SetEvent),
-        0x15 => Meaning::OfStick(StickCommand::SetInterrogation),
-        0x16 => Meaning::OfStick(StickCommand::ReportSticks),
-        0x17 => Meaning::OfStick(StickCommand::SetMonitoring),
-        0x18 => Meaning::OfStick(StickCommand::SetFire),
-        0x19 => Meaning::OfStick(StickCommand::SetStickKeycode),
-        _ => Meaning::OfStick(StickCommand::SticksOff),
+        0x14 => StickCommand::SetEvent,
+        0x15 => StickCommand::SetInterrogation,
+        0x16 => StickCommand::ReportSticks,
+        0x17 => StickCommand::SetMonitoring,
+        0x18 => StickCommand::SetFire,
+        0x19 => StickCommand::SetStickKeycode,
+        _ => StickCommand::SticksOff,
     }
 }
 
 // The code of each inquiry is that of a command plus 0x80; 0x8D, 0x8E, 0x91, 0x93, 0x97 and 0x98 are no inquiries.
+#[tactic(auto, unfolding(crate::specs::Codes::table, crate::specs::Codes::find, crate::specs::Codes::line))]
 fn inquiry_meaning(code: u8) -> Meaning
     requires { (0x87 ≤ code) × (code ≤ 0x9A) }
     ensures { result ≡ meaning_of code }
@@ -82,15 +86,16 @@ fn inquiry_meaning(code: u8) -> Meaning
     }
 }
 
+#[tactic(auto, unfolding(crate::specs::Codes::table, crate::specs::Codes::find, crate::specs::Codes::line))]
 pub fn meaning_of(code: u8) -> Meaning
     ensures { result ≡ meaning_of code }
 {
     match code {
-        0x07..=0x10 => mouse_meaning(code),
+        0x07..=0x10 => Meaning::OfMouse(mouse_command(code)),
         0x11 => Meaning::OfOther(OtherCommand::Resume),
         0x12 => Meaning::OfOther(OtherCommand::MouseOff),
         0x13 => Meaning::Pause,
-        0x14..=0x1A => stick_meaning(code),
+        0x14..=0x1A => Meaning::OfStick(stick_command(code)),
         0x1B => Meaning::OfOther(OtherCommand::SetClock),
         0x1C => Meaning::OfOther(OtherCommand::ReportClock),
         0x20 | 0x21 | 0x22 => Meaning::Memory,

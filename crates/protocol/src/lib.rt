@@ -5,38 +5,26 @@ ghost use Rattle.std.specs.Prelude.{◌≡◌};
 ghost use Rattle.protocol.specs.Reading.{no_command};
 ghost use Rattle.protocol.specs.Settings.{power_up, acts_as, monitors, is_absolute, is_mouse};
 
+use motion::Axes;
+
 mod answer;
 mod code;
 mod read;
 mod set;
 
 pub use code::{meaning_of, parameters_of};
-pub use set::word;
 
-// A byte for each axis of the mouse: thresholds, scales, deltas.
-#[derive(Clone, Copy)]
-pub struct Axes {
-    pub x: u8,
-    pub y: u8,
-}
-
-// A place in absolute mode: the coordinates, or their maximum.
-#[derive(Clone, Copy)]
-pub struct Point {
-    pub x: u16,
-    pub y: u16,
-}
-
-#[derive(Clone, Copy)]
+// Maximum and deltas: for each axis, as thresholds and scales are.
+#[derive(Clone, Copy, Debug, PartialEq, Eq)]
 pub enum MouseMode {
     Relative,
-    Absolute { maximum: Point },
-    Keycode { delta: Axes },
+    Absolute { maximum: Axes<u16> },
+    Keycode { delta: Axes<u8> },
 }
 
 // How an arrow key repeats along an axis, in tenths of a second: every `before` (the protocol's T) up to the
 // `breakpoint` (R), and every `after` (V) from then on.
-#[derive(Clone, Copy)]
+#[derive(Clone, Copy, Debug, PartialEq, Eq)]
 pub struct Repeat {
     pub breakpoint: u8,
     pub before: u8,
@@ -44,7 +32,7 @@ pub struct Repeat {
 }
 
 // In keycode mode the stick gives arrow keys. (The mouse has a keycode mode of its own.)
-#[derive(Clone, Copy)]
+#[derive(Clone, Copy, Debug, PartialEq, Eq)]
 pub enum StickMode {
     Event,
     Interrogation,
@@ -54,18 +42,18 @@ pub enum StickMode {
 }
 
 // What port 0 is taken for.
-#[derive(Clone, Copy)]
+#[derive(Clone, Copy, Debug, PartialEq, Eq)]
 pub enum Role {
     ForMouse,
     ForJoystick,
 }
 
-#[derive(Clone, Copy)]
+#[derive(Clone, Copy, Debug, PartialEq, Eq)]
 pub struct Settings {
     pub mouse: MouseMode,
     pub action: u8,
-    pub threshold: Axes,
-    pub scale: Axes,
+    pub threshold: Axes<u8>,
+    pub scale: Axes<u8>,
     pub bottom: bool,
     pub mouseon: bool,
     pub stick: StickMode,
@@ -74,7 +62,7 @@ pub struct Settings {
 }
 
 // What a command code means. 0x07 to 0x10: the mouse's commands, which make port 0 a mouse.
-#[derive(Clone, Copy)]
+#[derive(Clone, Copy, Debug, PartialEq, Eq)]
 pub enum MouseCommand {
     SetAction,
     SetRelative,
@@ -89,7 +77,7 @@ pub enum MouseCommand {
 }
 
 // 0x14 to 0x1A: the joysticks' commands, which make port 0 a joystick.
-#[derive(Clone, Copy)]
+#[derive(Clone, Copy, Debug, PartialEq, Eq)]
 pub enum StickCommand {
     SetEvent,
     SetInterrogation,
@@ -101,7 +89,7 @@ pub enum StickCommand {
 }
 
 // 0x11, 0x12, 0x1B and 0x1C leave port 0's role.
-#[derive(Clone, Copy)]
+#[derive(Clone, Copy, Debug, PartialEq, Eq)]
 pub enum OtherCommand {
     Resume,
     MouseOff,
@@ -110,7 +98,7 @@ pub enum OtherCommand {
 }
 
 // The eight inquiries: 87 88 8B 8C 8F 92 of the mouse, 94 9A of the sticks.
-#[derive(Clone, Copy)]
+#[derive(Clone, Copy, Debug, PartialEq, Eq)]
 pub enum Inquiry {
     AskAction,
     AskMouse,
@@ -123,7 +111,7 @@ pub enum Inquiry {
 }
 
 // `Nothing`: a code that does nothing. `Memory`: the three memory commands, read to their end and ignored.
-#[derive(Clone, Copy)]
+#[derive(Clone, Copy, Debug, PartialEq, Eq)]
 pub enum Meaning {
     Nothing,
     Memory,
@@ -136,8 +124,9 @@ pub enum Meaning {
 }
 
 // A half-received command: its code, how many parameter bytes have come, those bytes, and how many data bytes of a
-// memory load (0x20) are still to come. Code 0: none is half received.
-#[derive(Clone, Copy)]
+// memory load (0x20) are still to come. A saved line has these numbers as they are: so it is code 0, and no `Option`, where
+// none is half received, and `come` and `params` stand side by side.
+#[derive(Clone, Copy, Debug, PartialEq, Eq)]
 pub struct Command {
     pub code: u8,
     pub come: u8,
@@ -145,13 +134,18 @@ pub struct Command {
     pub pending: u8,
 }
 
-// What a host byte came to: a whole command with its code and parameters, or not; and the half-received command afterwards.
-#[derive(Clone, Copy)]
-pub struct Received {
-    pub whole: bool,
+// A command of which all bytes have come: its code, and the six places for its parameters.
+#[derive(Clone, Copy, Debug, PartialEq, Eq)]
+pub struct Whole {
     pub code: u8,
     pub params: [u8; 6],
+}
+
+// What a host byte came to: the command that it made whole, if it did, and what is half received afterwards.
+#[derive(Clone, Copy, Debug, PartialEq, Eq)]
+pub struct Received {
     pub command: Command,
+    pub whole: Option<Whole>,
 }
 
 impl Settings {
@@ -189,37 +183,30 @@ impl Command {
 pub fn acts_as(n: u8) -> u8
     ensures { result ≡ acts_as n }
 {
-    if n == 0 { 1 } else { n }
+    n.max(1)
 }
 
-// The monitoring modes are those of 0x17 and 0x18.
-pub fn is_monitoring(mode: StickMode) -> bool
-    ensures { result ≡ monitors mode }
-{
-    match mode {
-        StickMode::Event => false,
-        StickMode::Interrogation => false,
-        StickMode::Monitoring { rate: _ } => true,
-        StickMode::Fire => true,
-        StickMode::StickKeycode { x: _, y: _ } => false,
+impl StickMode {
+    // The monitoring modes are those of 0x17 and 0x18.
+    pub fn is_monitoring(self) -> bool
+        ensures { result ≡ monitors self }
+    {
+        matches!(self, StickMode::Monitoring { .. } | StickMode::Fire)
     }
 }
 
-pub fn is_absolute(mode: MouseMode) -> bool
-    ensures { result ≡ is_absolute mode }
-{
-    match mode {
-        MouseMode::Relative => false,
-        MouseMode::Absolute { maximum: _ } => true,
-        MouseMode::Keycode { delta: _ } => false,
+impl MouseMode {
+    pub fn is_absolute(self) -> bool
+        ensures { result ≡ is_absolute self }
+    {
+        matches!(self, MouseMode::Absolute { .. })
     }
 }
 
-pub fn for_mouse(role: Role) -> bool
-    ensures { result ≡ is_mouse role }
-{
-    match role {
-        Role::ForMouse => true,
-        Role::ForJoystick => false,
+impl Role {
+    pub fn is_mouse(self) -> bool
+        ensures { result ≡ is_mouse self }
+    {
+        self == Role::ForMouse
     }
 }

@@ -3,104 +3,90 @@ ghost use Rattle.std.specs.Prelude.{◌≡◌, ◌<◌};
 ghost use Rattle.protocol.specs.Reading.{most_parameters, half, whole, begin, take_parameter, take_data, feed, received_of, IsCommand};
 
 use crate::code::parameters_of;
-use crate::{Command, Received};
+use crate::{Command, Received, Whole};
 
 // The one command with data: its third parameter says how many bytes follow.
 const MEMORY_LOAD: u8 = 0x20;
 
-// What a byte came to, as the code hands it on.
-fn half_received(command: Command) -> Received
-    ensures { result ≡ received_of (half command) }
-{
-    Received {
-        whole: false,
-        code: 0,
-        params: [0; 6],
-        command,
-    }
-}
-
-fn whole_received(code: u8, params: [u8; 6]) -> Received
-    ensures { result ≡ received_of (whole code params) }
-{
-    Received {
-        whole: true,
-        code,
-        params,
-        command: Command::none(),
-    }
-}
-
 impl Command {
+    #[tactic(auto, using(crate::proofs::Reading::next_placed), unfolding(crate::specs::Reading::feed))]
     pub fn feed(self, b: u8) -> Received
         requires { IsCommand self }
         ensures { result ≡ received_of (feed self b) }
     {
         if self.code == 0 {
-            return Command::begin(b);
+            Command::begin(b)
+        } else if 0 < self.pending {
+            self.take_data()
+        } else {
+            self.take_parameter(b)
         }
-        if 0 < self.pending {
-            return self.take_data();
-        }
-        self.take_parameter(b)
     }
 
-    fn begin(b: u8) -> Received
-        ensures { result ≡ received_of (begin b) }
+    #[tactic(auto, unfolding(crate::specs::Reading::begin))]
+    fn begin(code: u8) -> Received
+        ensures { result ≡ received_of (begin code) }
     {
-        if parameters_of(b) == 0 {
-            return whole_received(b, [0; 6]);
+        let command = Command {
+            code,
+            ..Command::none()
+        };
+        if parameters_of(code) == 0 {
+            command.whole()
+        } else {
+            command.half()
         }
-        half_received(Command {
-            code: b,
-            come: 0,
-            params: [0; 6],
-            pending: 0,
-        })
     }
 
-    fn take_parameter(self, b: u8) -> Received
+    #[tactic(auto, unfolding(crate::specs::Reading::take_parameter))]
+    fn take_parameter(mut self, b: u8) -> Received
         requires { self.come < most_parameters }
         ensures { result ≡ received_of (take_parameter self b) }
     {
-        let at = self.come as usize;
-        let mut params = self.params;
-        params[at] = b;
-        let code = self.code;
-        let come = self.come + 1;
-        if come < parameters_of(code) {
-            return half_received(Command {
-                code,
-                come,
-                params,
-                pending: 0,
-            });
+        self.params[self.come as usize] = b;
+        self.come += 1;
+        self.pending = 0;
+        if self.come < parameters_of(self.code) {
+            return self.half();
         }
-        if code == MEMORY_LOAD {
-            if 0 < b {
-                return half_received(Command {
-                    code,
-                    come,
-                    params,
-                    pending: b,
-                });
-            }
+        if self.code == MEMORY_LOAD && 0 < b {
+            self.pending = b;
+            return self.half();
         }
-        whole_received(code, params)
+        self.whole()
     }
 
     // Data is not kept.
-    fn take_data(self) -> Received
+    #[tactic(auto, unfolding(crate::specs::Reading::take_data))]
+    fn take_data(mut self) -> Received
         requires { 0 < self.pending }
         ensures { result ≡ received_of (take_data self) }
     {
-        let params = self.params;
         if self.pending == 1 {
-            return whole_received(self.code, params);
+            return self.whole();
         }
-        half_received(Command {
-            pending: self.pending - 1,
-            ..self
-        })
+        self.pending -= 1;
+        self.half()
+    }
+
+    // Bytes are still to come.
+    fn half(self) -> Received
+        ensures { result ≡ received_of (half self) }
+    {
+        Received {
+            command: self,
+            whole: None,
+        }
+    }
+
+    // All bytes have come.
+    fn whole(self) -> Received
+        ensures { result ≡ received_of (whole self.code self.params) }
+    {
+        let Command { code, params, .. } = self;
+        Received {
+            command: Command::none(),
+            whole: Some(Whole { code, params }),
+        }
     }
 }

@@ -4,12 +4,12 @@ use mathlib.Core.Path.{◌≡◌, refl}
 use mathlib.Core.List.{[], ◌∷◌}
 use Rattle.receiver.specs.declared.Kind.TheVariants.{Make, Break, VersionOrBreak, Status, MousePosition, MouseMotion, Time, BothSticks, StickEvent}
 use Rattle.receiver.specs.declared.Cut.TheVariants.{Whole, TooFew, NoPacket}
-use Rattle.receiver.specs.Cut.{cut}
+use Rattle.output.specs.ScanCodes.{is_make, is_break}
+use Rattle.receiver.specs.Cut.{start, cut}
 use Rattle.receiver.specs.Pieces.{packet, no_packet, pieces_from, left_from, pieces, left}
-use Rattle.receiver.proofs.Table.{by_table}
 
 rules : Unit {0}
-unfolding by_table cut pieces_from left_from
+unfolding start is_make is_break cut pieces_from left_from
 rules = tt
 
 -- Reading 90: "00, 73, 76 to 80, F3 and nothing else; F6 to FF are packets and not breaks", and an empty rest is too few.

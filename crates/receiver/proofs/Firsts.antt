@@ -6,25 +6,22 @@ use mathlib.Core.Path.{◌≡◌, refl, sym, ap, ◌∙◌, subst}
 use mathlib.Core.Bool.{Bool, true, false, cond, ◌&&◌}
 use mathlib.Core.List.{List, [], ◌∷◌}
 use lib.Dec.{eqb, leb, ltb}
+use Rattle.std.specs.Prelude.{Option, Some, None}
 use lib.ListN.{length, take, length-append, length-take}
-use borrow.Author.Tests.{eqb-true, ltb-true, ltb-false}
+use borrow.Author.Tests.{eqb-true, lt-ltb, le-ltb, ltb-true, ltb-false}
 use Rattle.output.specs.ScanCodes.{is_make, is_break}
 use Rattle.output.proofs.Cases.{both_ways}
 use Rattle.output.proofs.Computed.{passes, passes_at}
 use Rattle.receiver.specs.declared.Kind.{Kind}
-use Rattle.receiver.specs.declared.Start.{Start}
-use Rattle.receiver.specs.declared.Start.TheVariants.{Starts, StartsNone}
 use Rattle.receiver.specs.declared.Cut.{Cut}
 use Rattle.receiver.specs.declared.Cut.TheVariants.{Whole, TooFew, NoPacket}
 use Rattle.receiver.specs.Cut.{start, cut, cut_at, length_of, number}
 use Rattle.receiver.specs.Promises.{Says, whole, empty, few, none, ExactlyOne, starts_none, Refuses, Decided, DecidedByLength}
-use Rattle.receiver.proofs.Cutting.{cut_few, cut_whole, cut_none}
-use Rattle.receiver.proofs.Table.{by_table}
 
 -- a packet has a byte, and at most eight
-abbrev pub Short : Start → Type 0
-Short (Starts k n) = (1 ≤ n) × (n ≤ 8)
-Short StartsNone = Unit {0}
+abbrev pub Short : Option (Kind × ℕ) → Type 0
+Short (Some (k, n)) = (1 ≤ n) × (n ≤ 8)
+Short None = Unit {0}
 
 short : (b : ℕ) → Short (start b)
 unfolding start
@@ -39,7 +36,7 @@ short b =
     (λ _. both_ways Short (eqb b 0xFD) (λ _. omega arith)
     (λ _. both_ways Short (leb 0xFE b && leb b 0xFF) (λ _. omega arith) (λ _. tt)))))))))
 
-pub starts_short : (b : ℕ) {n : ℕ} {k : Kind} → start b ≡ Starts k n → (1 ≤ n) × (n ≤ 8)
+pub starts_short : (b : ℕ) {n : ℕ} {k : Kind} → start b ≡ Some (k, n) → (1 ≤ n) × (n ≤ 8)
 starts_short b e = subst Short e (short b)
 
 says : (l : List ℕ) → Says l (cut l)
@@ -47,20 +44,20 @@ unfolding cut
 says [] = empty
 says (b ∷ l) = at (start b) refl
   where
-    at : (x : Start) → start b ≡ x → Says (b ∷ l) (cut_at x (length (b ∷ l)))
-    at (Starts k n) e =
+    at : (x : Option (Kind × ℕ)) → start b ≡ x → Says (b ∷ l) (cut_at x (length (b ∷ l)))
+    at (Some (k, n)) e =
         both_ways (Says (b ∷ l)) (ltb (length (b ∷ l)) n) (λ t. few e (ltb-true (length (b ∷ l)) n t)) (λ t. whole e (ltb-false (length (b ∷ l)) n t))
-    at StartsNone e = none e
+    at None e = none e
 
 -- what is cut, where one of the three is known
 pub is_cut : (l : List ℕ) (c : Cut) → Says l c → c ≡ cut l
 unfolding cut
 is_cut [] NoPacket w = elim w [ ]
 is_cut [] (Whole k n) w = elim w [ ]
-is_cut (b ∷ l) (Whole k n) (whole e h) = cut_whole (b ∷ l) (λ z. omega arith) refl e h
+is_cut (b ∷ l) (Whole k n) (whole e h) = rw (e, le-ltb (length (b ∷ l)) n h)
 is_cut [] TooFew empty = refl
-is_cut (b ∷ l) TooFew (few e h) = cut_few (b ∷ l) (λ z. omega arith) refl e h
-is_cut (b ∷ l) NoPacket (none e) = cut_none (b ∷ l) (λ z. omega arith) refl e
+is_cut (b ∷ l) TooFew (few {n} e h) = rw (e, lt-ltb (length (b ∷ l)) n h)
+is_cut (b ∷ l) NoPacket (none e) = rw e
 
 pub exactly_one : ExactlyOne
 exactly_one l = (says l, is_cut l)
@@ -74,16 +71,16 @@ refused_right : ℕ → Bool
 refused_right b = eqb (number (cut_at (start b) 8)) (cond (starts_none b) 6 0)
 
 -- how many bytes there are does not count for it
-same_number : (x : Start) (m n : ℕ) → number (cut_at x m) ≡ number (cut_at x n)
-same_number (Starts k length) m n = never (ltb m length) ∙ sym (never (ltb n length))
+same_number : (x : Option (Kind × ℕ)) (m n : ℕ) → number (cut_at x m) ≡ number (cut_at x n)
+same_number (Some (k, length)) m n = never (ltb m length) ∙ sym (never (ltb n length))
   where
     never : (t : Bool) → number (cond t TooFew (Whole k length)) ≡ 0
     never true = refl
     never false = refl
-same_number StartsNone m n = refl
+same_number None m n = refl
 
 number_is : (first : ℕ) (rest : List ℕ) → first ≤ 255 → number (cut (first ∷ rest)) ≡ cond (starts_none first) 6 0
-unfolding cut passes refused_right by_table
+unfolding cut passes refused_right start is_make is_break
 number_is first rest h =
     same_number (start first) _ 8
     ∙ eqb-true (number (cut_at (start first) 8)) (cond (starts_none first) 6 0) (passes_at refused_right 0 256 refl first (omega arith) (omega arith))

@@ -1,5 +1,3 @@
-pub mod Table
-pub mod Cutting
 pub mod Firsts
 pub mod Pieces
 pub mod Sent

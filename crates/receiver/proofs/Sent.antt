@@ -9,6 +9,7 @@ use lib.Dec.{eqb, leb, ltb}
 use lib.ListN.{length, length-append}
 use lib.Seq.{take-append_seam, drop-append_seam}
 use borrow.Author.Tests.{lt-ltb, le-ltb, ltb-true, ltb-false, leb-true, eqb-true}
+use Rattle.std.specs.Prelude.{Some}
 use Rattle.output.specs.ScanCodes.{is_make, is_break}
 use Rattle.output.specs.Packets.{Packet, scan, motion, position, time, sticks, stick, monitor, samples, status, version, bytes_of, bytes}
 use Rattle.output.proofs.Cases.{and_true}
@@ -16,13 +17,11 @@ use Rattle.output.proofs.Computed.{all_alike}
 use Rattle.output.proofs.Framed.{Framed, AllFramed}
 use Rattle.receiver.specs.declared.Kind.{Kind}
 use Rattle.receiver.specs.declared.Kind.TheVariants.{VersionOrBreak, Status, MousePosition, MouseMotion, Time, BothSticks, StickEvent}
-use Rattle.receiver.specs.declared.Start.TheVariants.{Starts}
 use Rattle.receiver.specs.declared.Cut.TheVariants.{Whole}
 use Rattle.receiver.specs.Cut.{start, cut}
 use Rattle.receiver.specs.Pieces.{Piece, packet, pieces_from, left_from, pieces, left}
 use Rattle.receiver.specs.Promises.{whole}
 use Rattle.receiver.specs.Sent.{code_kind, piece_of, AllPackets}
-use Rattle.receiver.proofs.Table.{by_table}
 use Rattle.receiver.proofs.Firsts.{is_cut}
 use Rattle.receiver.proofs.Pieces.{cut_in_turn}
 
@@ -32,7 +31,7 @@ record CutAs (p : Packet) : Type 0 where
   first : ℕ
   others : List ℕ
   all : bytes_of p ≡ first ∷ others
-  starts : start first ≡ Starts kind (length (first ∷ others))
+  starts : start first ≡ Some (kind, length (first ∷ others))
   told : packet kind (bytes_of p) ≡ piece_of p
 
 -- a make is below 0x80
@@ -61,35 +60,35 @@ break_high code h = at (ltb code 0x80) refl
     at false e = ltb-false code 0x80 e
 
 -- a scan code starts a packet by itself
-scan_starts : (code : ℕ) → (is_make code || is_break code) ≡ true → start code ≡ Starts (code_kind code) 1
+scan_starts : (code : ℕ) → (is_make code || is_break code) ≡ true → start code ≡ Some (code_kind code, 1)
 unfolding start
 scan_starts code h = at (is_make code) refl h
   where
-    break : is_make code ≡ false → is_break code ≡ true → (t : Bool) → eqb code 0xF0 ≡ t → start code ≡ Starts (code_kind code) 1
+    break : is_make code ≡ false → is_break code ≡ true → (t : Bool) → eqb code 0xF0 ≡ t → start code ≡ Some (code_kind code, 1)
     break m b true e = rw (m, e, le-ltb code 0x80 (break_high code b))
     break m b false e = rw (m, e, b, le-ltb code 0x80 (break_high code b))
 
-    at : (t : Bool) → is_make code ≡ t → (t || is_break code) ≡ true → start code ≡ Starts (code_kind code) 1
+    at : (t : Bool) → is_make code ≡ t → (t || is_break code) ≡ true → start code ≡ Some (code_kind code, 1)
     at true e h = rw (e, lt-ltb code 0x80 (make_low code e))
     at false e h = break e h (eqb code 0xF0) refl
 
 -- a packet of which the first byte is known
-cut_as : {p : Packet} (k : Kind) (first : ℕ) (others : List ℕ) → bytes_of p ≡ first ∷ others → start first ≡ Starts k (length (first ∷ others)) →
+cut_as : {p : Packet} (k : Kind) (first : ℕ) (others : List ℕ) → bytes_of p ≡ first ∷ others → start first ≡ Some (k, length (first ∷ others)) →
     packet k (bytes_of p) ≡ piece_of p → CutAs p
 cut_as k first others a s t = record { kind = k; first = first; others = others; all = a; starts = s; told = t }
 
 framed_cut : (p : Packet) → Framed p → CutAs p
-unfolding by_table
+unfolding start is_make is_break
 framed_cut (scan code) h = cut_as (code_kind code) code [] refl (scan_starts code h) refl
 framed_cut (motion buttons x y) h =
     cut_as MouseMotion (0xF8 + buttons) (x ∷ y ∷ []) refl
-    (sym (all_alike start (Starts MouseMotion 3) 0xF8 4 (refl, (refl, (refl, (refl, tt)))) (0xF8 + buttons) (omega arith) (omega arith))) refl
+    (sym (all_alike start (Some (MouseMotion, 3)) 0xF8 4 (refl, (refl, (refl, (refl, tt)))) (0xF8 + buttons) (omega arith) (omega arith))) refl
 framed_cut (position latches x y) h = cut_as MousePosition 0xF7 _ refl refl refl
 framed_cut (time year month day hour minute second) h = cut_as Time 0xFC _ refl refl refl
 framed_cut (sticks b0 b1) h = cut_as BothSticks 0xFD _ refl refl refl
 framed_cut (stick which byte) h =
     cut_as StickEvent (0xFE + which) (byte ∷ []) refl
-    (sym (all_alike start (Starts StickEvent 2) 0xFE 2 (refl, (refl, tt)) (0xFE + which) (omega arith) (omega arith))) refl
+    (sym (all_alike start (Some (StickEvent, 2)) 0xFE 2 (refl, (refl, tt)) (0xFE + which) (omega arith) (omega arith))) refl
 framed_cut (monitor triggers positions) h = absurd h
 framed_cut (samples byte) h = absurd h
 framed_cut (status a b c d e f g) h = cut_as Status 0xF6 _ refl refl refl

@@ -1,7 +1,6 @@
 -- What is promised of cutting, beside the equation of `first_packet` (document 02, A5).
-use Rattle.std.specs.Prelude.{ℕ, ◌≤◌, ◌<◌, ◌≡◌, Bool, true, cond, ◌&&◌, ◌||◌, List, [], ◌∷◌, ◌++◌, eqb, leb, length, take, drop}
+use Rattle.std.specs.Prelude.{ℕ, ◌≤◌, ◌<◌, ◌≡◌, Some, None, Bool, true, cond, ◌&&◌, ◌||◌, List, [], ◌∷◌, ◌++◌, eqb, leb, length, take, drop}
 use Rattle.receiver.specs.declared.Kind.{Kind}
-use Rattle.receiver.specs.declared.Start.TheVariants.{Starts, StartsNone}
 use Rattle.receiver.specs.declared.Cut.{Cut}
 use Rattle.receiver.specs.declared.Cut.TheVariants.{Whole, TooFew, NoPacket}
 use Rattle.receiver.specs.Cut.{start, cut, length_of, number}
@@ -10,13 +9,13 @@ use Rattle.receiver.specs.Pieces.{packet, no_packet, pieces, left}
 -- The three that can be said of received bytes, each by the first byte and by how many there are.
 pub data Says : List ℕ → Cut → Type 0 where
   -- a packet: its first byte tells kind and length, and that many bytes are there
-  whole : {b n : ℕ} {l : List ℕ} {k : Kind} → start b ≡ Starts k n → n ≤ length (b ∷ l) → Says (b ∷ l) (Whole k n)
+  whole : {b n : ℕ} {l : List ℕ} {k : Kind} → start b ≡ Some (k, n) → n ≤ length (b ∷ l) → Says (b ∷ l) (Whole k n)
   -- "Empty input is too few."
   empty : Says [] TooFew
   -- "Too few bytes"
-  few : {b n : ℕ} {l : List ℕ} {k : Kind} → start b ≡ Starts k n → length (b ∷ l) < n → Says (b ∷ l) TooFew
+  few : {b n : ℕ} {l : List ℕ} {k : Kind} → start b ≡ Some (k, n) → length (b ∷ l) < n → Says (b ∷ l) TooFew
   -- "the first byte starts no packet"
-  none : {b : ℕ} {l : List ℕ} → start b ≡ StartsNone → Says (b ∷ l) NoPacket
+  none : {b : ℕ} {l : List ℕ} → start b ≡ None → Says (b ∷ l) NoPacket
 
 -- Of every byte string exactly one of the three is true, and the cut says which.
 abbrev pub ExactlyOne : Type 0

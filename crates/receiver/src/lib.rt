@@ -5,7 +5,7 @@ ghost use Rattle.std.specs.Prelude.{◌≡◌};
 ghost use Rattle.receiver.specs.Cut.{start, cut, length_of, number};
 
 // The kinds that a host can tell, each by the first byte.
-#[derive(Clone, Copy)]
+#[derive(Clone, Copy, Debug, PartialEq, Eq)]
 pub enum Kind {
     // a make code
     Make,
@@ -27,15 +27,9 @@ pub enum Kind {
     StickEvent,
 }
 
-// What a first byte starts.
-#[derive(Clone, Copy)]
-pub enum Start {
-    Starts { kind: Kind, length: usize },
-    StartsNone,
-}
-
 // The first packet of received bytes: its kind and its length; or that more bytes must come first; or that no packet begins so.
-#[derive(Clone, Copy)]
+// No Option and no Result: three outcomes, each of which a host goes on from in a way of its own (`cut` and `number` name them).
+#[derive(Clone, Copy, Debug, PartialEq, Eq)]
 pub enum Cut {
     Whole { kind: Kind, length: usize },
     TooFew,
@@ -48,9 +42,8 @@ impl Cut {
         ensures { result ≡ length_of self }
     {
         match self {
-            Cut::Whole { kind: _, length } => length,
-            Cut::TooFew => 0,
-            Cut::NoPacket => 0,
+            Cut::Whole { length, .. } => length,
+            Cut::TooFew | Cut::NoPacket => 0,
         }
     }
 
@@ -59,73 +52,44 @@ impl Cut {
         ensures { result ≡ number self }
     {
         match self {
-            Cut::Whole { kind: _, length: _ } => 0,
-            Cut::TooFew => 0,
+            Cut::Whole { .. } | Cut::TooFew => 0,
             Cut::NoPacket => 6,
         }
     }
 }
 
-// The table of first bytes.
-fn started_by(first: u8) -> Start
+// The table of first bytes: the kind and the length of the packet that each starts.
+#[tactic(auto, unfolding(crate::specs::Cut::start, output::specs::ScanCodes::is_make, output::specs::ScanCodes::is_break))]
+fn started_by(first: u8) -> Option<(Kind, usize)>
     ensures { result ≡ start first }
 {
     match first {
-        0x01..=0x72 | 0x74 | 0x75 => Start::Starts {
-            kind: Kind::Make,
-            length: 1,
-        },
-        0xF0 => Start::Starts {
-            kind: Kind::VersionOrBreak,
-            length: 1,
-        },
-        0x81..=0xF2 | 0xF4 | 0xF5 => Start::Starts {
-            kind: Kind::Break,
-            length: 1,
-        },
-        0xF6 => Start::Starts {
-            kind: Kind::Status,
-            length: 8,
-        },
-        0xF7 => Start::Starts {
-            kind: Kind::MousePosition,
-            length: 6,
-        },
-        0xF8..=0xFB => Start::Starts {
-            kind: Kind::MouseMotion,
-            length: 3,
-        },
-        0xFC => Start::Starts {
-            kind: Kind::Time,
-            length: 7,
-        },
-        0xFD => Start::Starts {
-            kind: Kind::BothSticks,
-            length: 3,
-        },
-        0xFE | 0xFF => Start::Starts {
-            kind: Kind::StickEvent,
-            length: 2,
-        },
-        _ => Start::StartsNone,
+        0x01..=0x72 | 0x74 | 0x75 => Some((Kind::Make, 1)),
+        0xF0 => Some((Kind::VersionOrBreak, 1)),
+        0x81..=0xF2 | 0xF4 | 0xF5 => Some((Kind::Break, 1)),
+        0xF6 => Some((Kind::Status, 8)),
+        0xF7 => Some((Kind::MousePosition, 6)),
+        0xF8..=0xFB => Some((Kind::MouseMotion, 3)),
+        0xFC => Some((Kind::Time, 7)),
+        0xFD => Some((Kind::BothSticks, 3)),
+        0xFE | 0xFF => Some((Kind::StickEvent, 2)),
+        _ => None,
     }
 }
 
 // The first packet of received bytes. Only the first byte is looked at, and how many there are.
-#[tactic(auto, using(crate::proofs::Cutting::cut_empty, crate::proofs::Cutting::cut_few, crate::proofs::Cutting::cut_whole, crate::proofs::Cutting::cut_none))]
+#[tactic(auto, unfolding(crate::specs::Cut::cut))]
 pub fn first_packet(bytes: &[u8]) -> Cut
     ensures { result ≡ cut bytes.now }
 {
-    if bytes.len() == 0 {
+    let Some(first) = bytes.first() else {
+        return Cut::TooFew;
+    };
+    let Some((kind, length)) = started_by(*first) else {
+        return Cut::NoPacket;
+    };
+    if bytes.len() < length {
         return Cut::TooFew;
     }
-    match started_by(bytes[0]) {
-        Start::Starts { kind, length } => {
-            if bytes.len() < length {
-                return Cut::TooFew;
-            }
-            Cut::Whole { kind, length }
-        }
-        Start::StartsNone => Cut::NoPacket,
-    }
+    Cut::Whole { kind, length }
 }

@@ -3,15 +3,16 @@
 use Prim.Native.Nat.{ℕ, zero, suc, ◌+◌, ◌-◌, ◌*◌, ◌/◌, ◌%◌, ◌^◌, ◌≤◌, ◌<◌}
 use native.Mathlib.Omega.{arith}
 use native.Mathlib.Numerals.{add-one}
-use native.Mathlib.Nat.{pow-suc, pow-le-pow_right}
+use native.Mathlib.Nat.{pow-suc, pow-succ', pow-le-pow_right, mul_left_comm}
 use native.Mathlib.Decide.{dec_lt}
 use mathlib.Core.Path.{◌≡◌, refl, sym, ap, ap₂, ◌∙◌, subst}
 use mathlib.Core.Bool.{Bool, true, false, cond, ◌&&◌, ◌||◌, true≢false}
 use mathlib.Core.List.{List, [], ◌∷◌, ◌++◌, append_assoc}
-use mathlib.Core.Option.{none, some}
+use Rattle.std.specs.Prelude.{Option, None, Some, option_map}
+use Rattle.std.proofs.lemmas.Nat.{shl_whole}
 use lib.Dec.{eqb}
-use lib.ListN.{length, drop, set, get_or, length-append, length-drop}
-use lib.Seq.{drop-cons, drop-drop, drop-append_seam}
+use lib.ListN.{length, take, drop, set, get_or, length-append, length-drop}
+use lib.Seq.{drop-drop, drop-append_seam, take_all}
 use borrow.Author.Tests.{le-leb, lt-leb, eqb-true, eq-eqb, ne_eqb}
 use Rattle.output.specs.ScanCodes.{first_key, last_key}
 use Rattle.output.specs.Packets.{bit}
@@ -23,10 +24,7 @@ use Rattle.keys.specs.Words.{has_bit}
 use Rattle.keys.specs.Keys.{low_keys, has_key, IsKeys}
 use Rattle.text.specs.Line.{tab}
 use Rattle.text.specs.Output.{figure}
-use Rattle.saved.specs.declared.scan.Word.{Word}
-use Rattle.saved.specs.declared.scan.Mapped.{Mapped}
-use Rattle.saved.specs.Load.{map_width}
-use Rattle.saved.specs.Answers.{no_word, word_in, no_map, map_in}
+use Rattle.saved.specs.Load.{then, map_width}
 use Rattle.saved.specs.Digits.{key_digits, map_text, word_digits, are_digits, word_of, word_from, begins_with, map_of, has_map, map_from}
 
 -- ---- the digits of the keys are those of the words
@@ -232,66 +230,84 @@ map_is l h =
     let v = and_true (are_digits low_keys l) (are_digits high_keys (drop low_keys l)) (sym (are_both low_keys high_keys l) ∙ u.0) in
     record { low = word_less low_keys l v.0; high = word_less high_keys (drop low_keys l) v.1 }
 
--- ---- what the code finds, word by word
+-- ---- the map, word by word
 
-word_told : (n : ℕ) (l : List ℕ) (w : Word) → word_in w ≡ word_from n l → (w.well ≡ are_digits n l) × (w.well ≡ true → w.bits ≡ word_of n l)
+word_taken : (n : ℕ) (l : List ℕ) → (are_digits n (take n l) ≡ are_digits n l) × (word_of n (take n l) ≡ word_of n l)
+unfolding are_digits word_of
+word_taken zero l = (refl, refl)
+word_taken (suc n) [] = (refl, refl)
+word_taken (suc n) (b ∷ l) = let e = word_taken n l in (rw e.0 refl, rw e.1 refl)
+
+pub word_front : (n : ℕ) (l : List ℕ) → word_from n (take n l) ≡ word_from n l
 unfolding word_from
-word_told n l w e = go w.well (are_digits n l) e
+word_front n l = let e = word_taken n l in rw (e.0, e.1) refl
+
+-- the map as two words and a tab
+abbrev pub by_words : List ℕ → Option (Keys × List ℕ)
+by_words l =
+    then {B = Keys × List ℕ} (word_from low_keys l) (λ low.
+    then {B = Keys × List ℕ} (word_from high_keys (drop low_keys l)) (λ high.
+    cond (begins_with tab (drop last_key l)) (Some (record { low = low; high = high }, drop map_width l)) None))
+
+pub map_by_words : (l : List ℕ) → by_words l ≡ option_map {U = Keys × List ℕ} (λ (m : Keys). (m, drop map_width l)) (map_from l)
+unfolding word_from map_from has_map map_of
+map_by_words l =
+    rw (are_both low_keys high_keys l)
+    (go (are_digits low_keys l) (are_digits high_keys (drop low_keys l)) (begins_with tab (drop last_key l)) (word_of low_keys l) (word_of high_keys (drop low_keys l)) (drop map_width l))
   where
-    go : (t u : Bool) → cond t (some w.bits) none ≡ cond u (some (word_of n l)) none → (t ≡ u) × (t ≡ true → w.bits ≡ word_of n l)
-    go true true e = (refl, λ _. let z : w.bits ≡ word_of n l = cc in z)
-    go true false e = absurd (let z : ◌≡◌ {A = ℕ} 0 1 = cc in omega arith)
-    go false true e = absurd (let z : ◌≡◌ {A = ℕ} 0 1 = cc in omega arith)
-    go false false e = (refl, λ z. absurd (true≢false (sym z)))
+    go : (s t u : Bool) (low high : ℕ) (r : List ℕ)
+        → then {B = Keys × List ℕ} (cond s (Some low) None) (λ (a : ℕ). then {B = Keys × List ℕ} (cond t (Some high) None) (λ (b : ℕ). cond u (Some (record { low = a; high = b }, r)) None))
+        ≡ option_map {U = Keys × List ℕ} (λ (m : Keys). (m, r)) (cond ((s && t) && u) (Some (record { low = low; high = high })) None)
+    go true true true low high r = refl
+    go true true false low high r = refl
+    go true false u low high r = refl
+    go false t u low high r = refl
 
-module _ (l : List ℕ) (from : ℕ) where
-  abbrev here : List ℕ
-  here = drop from l
+no_tab : (t : List ℕ) → (1 ≤ length t → get_or t 0 0 ≡ tab → ⊥) → begins_with tab t ≡ false
+unfolding begins_with
+no_tab [] h = refl
+no_tab (b ∷ t) h = ne_eqb b tab (h (omega arith))
 
-  no_map_in : (r : Mapped) → r ≡ no_map → has_map here ≡ false → map_in r ≡ map_from here
-  unfolding map_from
-  no_map_in r e h = ap map_in e ∙ rw h refl
+a_tab : (t : List ℕ) → 1 ≤ length t → get_or t 0 0 ≡ tab → begins_with tab t ≡ true
+unfolding begins_with
+a_tab [] h e = absurd (omega arith)
+a_tab (b ∷ t) h e = eq-eqb b tab e
 
-  pub map_short : (r : Mapped) → length l - from < map_width → r ≡ no_map → map_in r ≡ map_from here
-  map_short r h e = no_map_in r e (sym (no_map_short here (simp length-drop (omega arith))))
+pub map_short : (l : List ℕ) → length l < map_width → None ≡ option_map {U = Keys × List ℕ} (λ (m : Keys). (m, drop map_width l)) (map_from l)
+unfolding map_from
+map_short l h = rw (sym (no_map_short l h)) refl
 
-  module _ (low : Word) (p : word_in low ≡ word_from low_keys here) where
-    pub map_low : (r : Mapped) → low.well ≡ false → r ≡ no_map → map_in r ≡ map_from here
-    unfolding has_map
-    map_low r w e =
-        let u : are_digits low_keys here ≡ false = sym (word_told low_keys here low p).0 ∙ w in
-        no_map_in r e (rw (are_both low_keys high_keys here, u) refl)
+-- the parts of a text as the code takes them
+module _ (l low rest high left : List ℕ) (a : low ≡ take low_keys l) (b : rest ≡ drop low_keys l) (c : high ≡ take high_keys rest) (d : left ≡ drop high_keys rest)
+    (m : length low ≡ low_keys) (n : length high ≡ high_keys) where
+  low_is : word_from (length low) low ≡ word_from low_keys l
+  low_is = rw (m, a) (word_front low_keys l)
 
-    module _ (a : low.well ≡ true) (high : Word) (q : word_in high ≡ word_from high_keys (drop (from + low_keys) l)) where
-      high_here : drop low_keys here ≡ drop (from + low_keys) l
-      high_here = drop-drop low_keys from l
+  high_is : word_from (length high) high ≡ word_from high_keys (drop low_keys l)
+  high_is = rw (n, c, b) (word_front high_keys (drop low_keys l))
 
-      pub map_high : (r : Mapped) → high.well ≡ false → r ≡ no_map → map_in r ≡ map_from here
-      unfolding has_map
-      map_high r w e =
-          let u : are_digits low_keys here ≡ true = sym (word_told low_keys here low p).0 ∙ a in
-          let v : are_digits high_keys (drop (from + low_keys) l) ≡ false = sym (word_told high_keys (drop (from + low_keys) l) high q).0 ∙ w in
-          no_map_in r e (rw (are_both low_keys high_keys here, high_here, u, v) refl)
+  left_is : left ≡ drop last_key l
+  left_is = d ∙ ap (drop high_keys) b ∙ drop-drop high_keys low_keys l
 
-      module _ (b : high.well ≡ true) (room : from + map_width ≤ length l) where
-        all_digits : are_digits last_key here ≡ true
-        all_digits =
-            let u : are_digits low_keys here ≡ true = sym (word_told low_keys here low p).0 ∙ a in
-            let v : are_digits high_keys (drop (from + low_keys) l) ≡ true = sym (word_told high_keys (drop (from + low_keys) l) high q).0 ∙ b in
-            are_both low_keys high_keys here ∙ rw (high_here, u, v) refl
+  pub map_low : None ≡ word_from (length low) low → None ≡ option_map {U = Keys × List ℕ} (λ (k : Keys). (k, drop map_width l)) (map_from l)
+  map_low e = rw (← (e ∙ low_is)) refl ∙ map_by_words l
 
-        tab_here : has_map here ≡ eqb (get_or l (from + last_key) 0) tab
-        unfolding has_map begins_with
-        tab_here = rw (all_digits, drop-drop last_key from l, drop-cons l (from + last_key) 0 (omega arith)) refl
+  module _ (x : ℕ) (p : Some x ≡ word_from (length low) low) where
+    pub map_high : None ≡ word_from (length high) high → None ≡ option_map {U = Keys × List ℕ} (λ (k : Keys). (k, drop map_width l)) (map_from l)
+    map_high e = rw (← (p ∙ low_is), ← (e ∙ high_is)) refl ∙ map_by_words l
 
-        pub map_other : (r : Mapped) → (get_or l (from + last_key) 0 ≡ tab → ⊥) → r ≡ no_map → map_in r ≡ map_from here
-        map_other r t e = no_map_in r e (tab_here ∙ ne_eqb (get_or l (from + last_key) 0) tab t)
+    module _ (y : ℕ) (q : Some y ≡ word_from (length high) high) where
+      by_tab : (t : Bool) → begins_with tab left ≡ t → cond t (Some (record { low = x; high = y }, drop map_width l)) None ≡ option_map {U = Keys × List ℕ} (λ (k : Keys). (k, drop map_width l)) (map_from l)
+      by_tab t e = rw (← e, left_is) (rw (← (p ∙ low_is), ← (q ∙ high_is)) refl ∙ map_by_words l)
 
-        pub map_whole : get_or l (from + last_key) 0 ≡ tab → map_in (record { well = true; keys = record { low = low.bits; high = high.bits } }) ≡ map_from here
-        unfolding map_from map_of
-        map_whole t =
-            let h : has_map here ≡ true = tab_here ∙ eq-eqb (get_or l (from + last_key) 0) tab t in
-            rw (h, high_here, ← ((word_told low_keys here low p).1 a), ← ((word_told high_keys (drop (from + low_keys) l) high q).1 b)) refl
+      pub map_other : (1 ≤ length left → get_or left 0 0 ≡ tab → ⊥) → None ≡ option_map {U = Keys × List ℕ} (λ (k : Keys). (k, drop map_width l)) (map_from l)
+      map_other t = by_tab false (no_tab left t)
+
+      pub map_whole : 1 ≤ length left → get_or left 0 0 ≡ tab → Some (record { low = x; high = y }, take (length left - 1) (drop 1 left)) ≡ option_map {U = Keys × List ℕ} (λ (k : Keys). (k, drop map_width l)) (map_from l)
+      map_whole h t = ap (λ (r : List ℕ). Some (record { low = x; high = y }, r)) behind ∙ by_tab true (a_tab left h t)
+        where
+          behind : take (length left - 1) (drop 1 left) ≡ drop map_width l
+          behind = take_all (length left - 1) (drop 1 left) (simp length-drop (omega arith)) ∙ ap (drop 1) left_is ∙ drop-drop 1 last_key l
 
 -- ---- the loop that writes a word
 
@@ -336,61 +352,76 @@ module _ (w n : ℕ) (l : List ℕ) (room : n ≤ length l) where
           same = kept v (omega arith);
         }
 
-    pub spelling_end : n ≤ i → Wrote (word_digits n w) n l X
-    spelling_end h = let e : i ≡ n = omega (arith, s.inside) in subst (λ (k : ℕ). Wrote (word_digits k w) k l X) e s.wrote
-
 -- ---- the loop that reads one
 
--- the digits from i on are read
-pub record Reckoning (l : List ℕ) (from n i word : ℕ) : Type 0 where
-  pub inside : i ≤ n
-  pub digits : are_digits (n - i) (drop (from + i) l) ≡ true
-  pub value : word ≡ word_of (n - i) (drop (from + i) l)
+digit_more : (i : ℕ) (l : List ℕ) → i < length l → are_digits (suc i) l ≡ (are_digits i l && (eqb (get_or l i 0) (figure 0) || eqb (get_or l i 0) (figure 1)))
+unfolding are_digits
+digit_more i [] h = absurd (omega arith)
+digit_more zero (b ∷ l) h = and_last (eqb b (figure 0) || eqb b (figure 1))
+  where
+    and_last : (t : Bool) → (t && true) ≡ (true && t)
+    and_last true = refl
+    and_last false = refl
+digit_more (suc i) (b ∷ l) h =
+    rw (digit_more i l (omega arith)) (and_both (eqb b (figure 0) || eqb b (figure 1)) (are_digits i l) (eqb (get_or l i 0) (figure 0) || eqb (get_or l i 0) (figure 1)))
+  where
+    and_both : (t u v : Bool) → (t && (u && v)) ≡ ((t && u) && v)
+    and_both true u v = refl
+    and_both false u v = refl
 
-module _ (l : List ℕ) (from n : ℕ) (room : from + n ≤ length l) where
-  pub reckoning_start : Reckoning l from n n 0
-  unfolding word_of are_digits
-  reckoning_start = let e : n - n ≡ 0 = omega arith in record { inside = omega arith; digits = rw e refl; value = rw e refl }
+bit_more : (i : ℕ) (l : List ℕ) → i < length l → word_of (suc i) l ≡ word_of i l + (get_or l i 0 - figure 0) * 2 ^ i
+unfolding word_of
+bit_more i [] h = absurd (omega arith)
+bit_more zero (b ∷ l) h = omega arith
+bit_more (suc i) (b ∷ l) h =
+    let d = get_or l i 0 - figure 0 in
+    let e = bit_more i l (omega arith) in
+    let q : d * 2 ^ suc i ≡ 2 * (d * 2 ^ i) = ap (λ (x : ℕ). d * x) (pow-succ' 2 i) ∙ mul_left_comm d 2 (2 ^ i) in
+    omega (arith, e, q)
 
-  module _ {i word : ℕ} (r : Reckoning l from n i word) (some_left : 0 < i) where
-    one_more : n - (i - 1) ≡ suc (n - i)
-    one_more = omega (arith, r.inside)
+-- the first i digits are read
+pub record Reckoning (l : List ℕ) (i word : ℕ) : Type 0 where
+  pub digits : are_digits i l ≡ true
+  pub value : word ≡ word_of i l
 
-    digit_next : drop (from + (i - 1)) l ≡ get_or l (from + (i - 1)) 0 ∷ drop (from + i) l
-    digit_next =
-        drop-cons l (from + (i - 1)) 0 (omega (arith, r.inside))
-        ∙ (let m : suc (from + (i - 1)) ≡ from + i = omega arith in ap (λ (x : ℕ). get_or l (from + (i - 1)) 0 ∷ drop x l) m)
+pub reckoning_start : (l : List ℕ) → Reckoning l 0 0
+unfolding word_of are_digits
+reckoning_start l = record { digits = refl; value = refl }
 
-    pub reckoning_small : n ≤ 64 → 2 * word + 1 < 2 ^ 64
-    reckoning_small small =
-        let q = word_less (n - i) (drop (from + i) l) r.digits in
-        let p : 2 ^ (n - i) ≤ 2 ^ 63 = (let z : 0 < 2 = omega arith in let y : n - i ≤ 63 = omega (arith, r.inside) in pow-le-pow_right z y) in
-        let v = r.value in
-        let t = pow-suc 2 63 in
-        omega arith
+-- a digit in its place is below a word's end
+placed : (d i : ℕ) → d ≤ 1 → i < 64 → (d * 2 ^ i % 18446744073709551616 ≡ d * 2 ^ i) × (d * 2 ^ i ≤ 2 ^ i)
+placed d i h l = (shl_whole d 1 i 64 (omega arith) (omega arith), at_most d (2 ^ i) h)
+  where
+    at_most : (d x : ℕ) → d ≤ 1 → d * x ≤ x
+    at_most zero x h = omega arith
+    at_most (suc zero) x h = omega arith
+    at_most (suc (suc d)) x h = absurd (omega arith)
 
-    pub reckoning_stop : (w : Word) → (get_or l (from + (i - 1)) 0 ≡ figure 0 → ⊥) → (get_or l (from + (i - 1)) 0 ≡ figure 1 → ⊥) → w ≡ no_word → word_in w ≡ word_from n (drop from l)
-    unfolding word_from are_digits
-    reckoning_stop w a b e =
-        let k : i - 1 + (n - (i - 1)) ≡ n = omega (arith, r.inside) in
-        let bad : are_digits (n - (i - 1)) (drop (from + (i - 1)) l) ≡ false = rw (one_more, digit_next, ne_eqb (get_or l (from + (i - 1)) 0) (figure 0) a, ne_eqb (get_or l (from + (i - 1)) 0) (figure 1) b) refl in
-        let all : are_digits n (drop from l) ≡ false =
-        ap (λ (m : ℕ). are_digits m (drop from l)) (sym k) ∙ are_both (i - 1) (n - (i - 1)) (drop from l) ∙ rw (drop-drop (i - 1) from l, bad) (and_false (are_digits (i - 1) (drop from l)))
-        in
-        ap word_in e ∙ rw all refl
-      where
-        and_false : (t : Bool) → (t && false) ≡ false
-        and_false true = refl
-        and_false false = refl
+module _ (l : List ℕ) (i word : ℕ) (r : Reckoning l i word) (h : i < length l) where
+  pub reckoning_stop : (get_or l i 0 ≡ figure 0 → ⊥) → (get_or l i 0 ≡ figure 1 → ⊥) → None ≡ word_from (length l) l
+  unfolding word_from
+  reckoning_stop a b =
+      let k : suc i + (length l - suc i) ≡ length l = omega arith in
+      let bad : are_digits (suc i) l ≡ false = digit_more i l h ∙ rw (r.digits, ne_eqb (get_or l i 0) (figure 0) a, ne_eqb (get_or l i 0) (figure 1) b) refl in
+      let all : are_digits (length l) l ≡ false = ap (λ (m : ℕ). are_digits m l) (sym k) ∙ are_both (suc i) (length l - suc i) l ∙ rw bad refl in
+      rw all refl
 
-    pub reckoning_on : figure 0 ≤ get_or l (from + (i - 1)) 0 → get_or l (from + (i - 1)) 0 ≤ figure 1 → Reckoning l from n (i - 1) (2 * word + (get_or l (from + (i - 1)) 0 - figure 0))
-    unfolding word_of are_digits
-    reckoning_on a b =
-        let v = r.value in
+  module _ (d : ℕ) (e : d ≡ get_or l i 0 - figure 0) (low : figure 0 ≤ get_or l i 0) (high : get_or l i 0 ≤ figure 1) (small : length l ≤ 64) where
+    in_place : (d * 2 ^ i % 18446744073709551616 ≡ d * 2 ^ i) × (d * 2 ^ i ≤ 2 ^ i)
+    in_place = placed d i (omega arith) (omega arith)
+
+    pub reckoning_small : word + d * 2 ^ i % 18446744073709551616 < 18446744073709551616
+    reckoning_small =
+        let q = word_less i l r.digits in
+        let p : 2 ^ suc i ≤ 2 ^ 64 = (let z : 0 < 2 = omega arith in let y : suc i ≤ 64 = omega arith in pow-le-pow_right z y) in
+        omega (arith, q, p, r.value, pow-succ' 2 i, in_place.0, in_place.1)
+
+    pub reckoning_on : Reckoning l (i + 1) (word + d * 2 ^ i % 18446744073709551616)
+    reckoning_on =
+        let b : (eqb (get_or l i 0) (figure 0) || eqb (get_or l i 0) (figure 1)) ≡ true = between (get_or l i 0) low high in
         record {
-          inside = omega (arith, r.inside);
-          digits = rw (one_more, digit_next, r.digits, between (get_or l (from + (i - 1)) 0) a b) refl;
-          value = rw (one_more, digit_next, ← v) (omega arith);
+          digits = rw (add-one i) (digit_more i l h ∙ rw (r.digits, b) refl);
+          value = rw (add-one i, in_place.0, e) (ap (λ (x : ℕ). x + (get_or l i 0 - figure 0) * 2 ^ i) r.value ∙ sym (bit_more i l h));
         }
       where
         between : (b : ℕ) → figure 0 ≤ b → b ≤ figure 1 → (eqb b (figure 0) || eqb b (figure 1)) ≡ true
@@ -400,10 +431,6 @@ module _ (l : List ℕ) (from n : ℕ) (room : from + n ≤ length l) where
               | no more ↦ (let e : b ≡ figure 0 = omega arith in rw e refl)
             ]
 
-  pub reckoning_end : {i word : ℕ} → Reckoning l from n i word → i ≡ 0 → word_in (record { well = true; bits = word }) ≡ word_from n (drop from l)
-  unfolding word_from
-  reckoning_end {i} r e =
-      let z : n - i ≡ n = omega arith in
-      let y : from + i ≡ from = omega arith in
-      let d : are_digits n (drop from l) ≡ true = subst (λ (m : ℕ). are_digits m (drop from l) ≡ true) z (subst (λ (m : ℕ). are_digits (n - i) (drop m l) ≡ true) y r.digits) in
-      rw d (ap some (r.value ∙ rw (z, y) refl))
+pub reckoning_end : (l : List ℕ) (i word : ℕ) → Reckoning l i word → length l ≡ i → Some word ≡ word_from (length l) l
+unfolding word_from
+reckoning_end l i word r e = rw (e, r.digits) (ap Some r.value)

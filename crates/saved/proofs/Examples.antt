@@ -3,7 +3,7 @@
 use Prim.Native.Nat.{ℕ}
 use mathlib.Core.Path.{◌≡◌, refl}
 use mathlib.Core.List.{List, []}
-use mathlib.Core.Option.{none}
+use Rattle.std.specs.Prelude.{None}
 use lib.ListN.{length}
 use Rattle.keys.specs.Words.{has_bit}
 use Rattle.keys.specs.Keys.{has_key}
@@ -25,11 +25,11 @@ power_up_line = refl
 pub power_up_length : length power_up_text ≡ 227
 power_up_length = refl
 
-pub nothing_refused : load queue_room [] ≡ none
+pub nothing_refused : load queue_room [] ≡ None
 unfolding load read_numbers field_from number_from
 nothing_refused = refl
 
 -- a leading zero
-pub zero_refused : load queue_room (text "00\t") ≡ none
+pub zero_refused : load queue_room (text "00\t") ≡ None
 unfolding load read_numbers field_from number_from
 zero_refused = refl

@@ -9,13 +9,13 @@ use mathlib.Core.Path.{◌≡◌, refl, sym, ap, ◌∙◌, subst}
 use mathlib.Core.Bool.{Bool, true, false, cond}
 use mathlib.Core.List.{List, [], ◌∷◌, ◌++◌, append_assoc}
 use lib.Dec.{leb}
-use lib.ListN.{length, take, drop, get_or, set, length-append, length-drop}
-use lib.Seq.{take_all, take-append_seam}
-use borrow.Author.Tests.{lt-ltb, le-ltb, le-leb, lt-leb}
+use lib.ListN.{length, take, drop, get_or, set, length-append}
+use lib.Seq.{take_all, take-append_seam, length-take-le}
+use borrow.Author.Tests.{lt-ltb, le-ltb, le-leb}
 use Rattle.output.specs.Writing.{over, Wrote}
 use Rattle.output.proofs.Cases.{both_ways}
 use Rattle.output.proofs.Writing.{both, kept, none, stored}
-use Rattle.controller.specs.declared.Queue.{Queue}
+use Rattle.output.specs.declared.Run.{Run}
 use Rattle.controller.specs.declared.State.{State}
 use Rattle.controller.specs.State.{IsState, contents, queue_room}
 use Rattle.fields.specs.Ranges.{numbered, held_zero}
@@ -26,8 +26,7 @@ use Rattle.text.proofs.Counting.{one_figure, decimal_ten}
 use Rattle.text.proofs.Shown.{shown_one, shown_two}
 use Rattle.saved.specs.Digits.{map_text}
 use Rattle.saved.specs.Line.{signed, motion_text, field_text, fields_text, line_of}
-use Rattle.saved.specs.Load.{same}
-use Rattle.saved.specs.declared.Save.TheVariants.{Written, BufferShort}
+use Rattle.std.specs.Prelude.{Ok}
 use Rattle.saved.specs.Answers.{SavedAs, field_width}
 
 -- what was written stands at the front
@@ -35,12 +34,11 @@ pub front : {line : List ℕ} {n : ℕ} {l X : List ℕ} → Wrote line n l X �
 unfolding over
 front {line} {n} {l} {X} w = ap (λ (m : ℕ). take m X) w.count ∙ ap (take (length line)) w.buffer ∙ take-append_seam line (drop (length line) l)
 
--- a text from a place on is compared with what was written
-pub compared : (text l : List ℕ) (from : ℕ) {n : ℕ} {b X : List ℕ} (r : Bool) → Wrote text n b X → r ≡ same (take n X) (take (length l - from) (drop from l)) → r ≡ same text (drop from l)
-compared text l from r w e = e ∙ rw (front w, take_all (length l - from) (drop from l) (simp length-drop (omega arith))) refl
-
 pub one_digit : (x : ℕ) (l : List ℕ) → x < 10 → 1 ≤ length l → Wrote (decimal x) 1 l (set l 0 (figure x))
 one_digit x l h r = rw (one_figure x x h) (stored (figure x) l r)
+
+pub minus_stored : (l : List ℕ) → 1 ≤ length l → Wrote (minus ∷ []) 1 l (set l 0 minus)
+minus_stored l r = stored minus l r
 
 pub decimal_short : (k n : ℕ) → n < 10 ^ suc k → length (decimal n) ≤ suc k
 decimal_short zero n h = rw (one_figure n n (omega arith)) (omega arith)
@@ -73,24 +71,6 @@ module _ {n : ℕ} {l X : List ℕ} (x : ℕ) where
   pub motion_below : x < held_zero → Wrote (minus ∷ decimal (held_zero - x)) n l X → Wrote (motion_text x) n l X
   unfolding motion_text
   motion_below h w = rw (lt-ltb x held_zero h) w
-
-  pub motion_above : held_zero ≤ x → Wrote (decimal (x - held_zero)) n l X → Wrote (motion_text x) n l X
-  unfolding motion_text
-  motion_above h w = rw (le-ltb x held_zero h) w
-
-  pub field_motion : (i : ℕ) → signed i ≡ true → Wrote (motion_text x) n l X → Wrote (field_text i x) n l X
-  unfolding field_text
-  field_motion i e w = go (signed i) e
-    where
-      go : (t : Bool) → t ≡ true → Wrote (cond t (motion_text x) (decimal x)) n l X
-      go t e = rw e w
-
-  pub field_number : (i : ℕ) → signed i ≡ false → Wrote (decimal x) n l X → Wrote (field_text i x) n l X
-  unfolding field_text
-  field_number i e w = go (signed i) e
-    where
-      go : (t : Bool) → t ≡ false → Wrote (cond t (motion_text x) (decimal x)) n l X
-      go t e = rw e w
 
 -- ---- the loop over the fields
 
@@ -141,11 +121,12 @@ pub short_queue : (s : State) → IsState s → (s.queue.len ≤ queue_room) × 
 short_queue s i = (both_ways (λ (n : ℕ). s.queue.len ≤ n → s.queue.len ≤ queue_room) s.paused (λ _ h. h) (λ _ h. omega arith) i.ranges.queue.filled, i.ranges.queue.room)
 
 -- the bytes of a queue have two digits each, or it is a minus
-pub shown_room : (q : Queue) → q.len ≤ queue_room → length q.bytes ≡ queue_room → length (shown (contents q)) ≤ 2 * queue_room
+pub shown_room : (q : Run queue_room) → q.len ≤ queue_room → length q.bytes ≡ queue_room → length (shown (contents q)) ≤ 2 * queue_room
 shown_room q h e =
+    let n : length (contents q) ≡ q.len = length-take-le q.len q.bytes (omega (arith, h, e)) in
     elim (dec_lt 0 q.len) [
-      | yes some ↦ omega (arith, h, shown_two q.len q.bytes (λ z. omega arith) (omega (arith, h, e)))
-      | no some ↦ omega (arith, shown_one q.len q.bytes (omega arith))
+      | yes some ↦ omega (arith, h, n, shown_two (contents q) (λ z. omega (arith, n)))
+      | no some ↦ omega (arith, shown_one (contents q) (omega (arith, n)))
     ]
 
 pub line_whole : (s : State) (a : List ℕ) {n : ℕ} {l X : List ℕ} → a ≡ numbers s
@@ -160,13 +141,9 @@ line_whole s a {n} {l} {X} e w =
     ∙ ap (λ (b : List ℕ). fields_text 0 b ++ (m ++ (tab ∷ tail))) e) w
 
 module _ (line : List ℕ) {n : ℕ} {l X : List ℕ} (w : Wrote line n l X) (before : List ℕ) where
-  pub saved_short : length before < n → SavedAs line before (record { answer = BufferShort; count = 0 }) before
-  saved_short h =
-      let e : leb (length line) (length before) ≡ false = lt-leb (length line) (length before) (omega (arith, w.count)) in
-      record { result = rw e; buffer = rw e }
-
-  pub saved_whole : n ≤ length before → {k : ℕ} {after : List ℕ} → Wrote (take n X) k before after → SavedAs line before (record { answer = Written; count = k }) after
-  saved_whole h {k} {after} v =
+  -- the line is at the front of the buffer, and the rest stays
+  pub saved_whole : n ≤ length before → {after : List ℕ} → after ≡ take n X ++ drop n before → SavedAs line before (Ok n) after
+  unfolding over
+  saved_whole h {after} a =
       let e : leb (length line) (length before) ≡ true = le-leb (length line) (length before) (omega (arith, w.count)) in
-      let u : Wrote line k before after = subst (λ (b : List ℕ). Wrote b k before after) (front w) v in
-      record { result = rw (e, u.count); buffer = rw e u.buffer }
+      record { result = rw (e, w.count); buffer = rw (e, a, front w, w.count) }

@@ -8,10 +8,10 @@ use native.Mathlib.Decide.{dec_lt}
 use mathlib.Core.Path.{◌≡◌, refl, sym, ap, ◌∙◌, subst}
 use mathlib.Core.Bool.{Bool, true, false, cond, ◌&&◌, ◌||◌, true≢false}
 use mathlib.Core.List.{List, [], ◌∷◌, ◌++◌, append_assoc}
-use mathlib.Core.Option.{Option, none, some}
+use Rattle.std.specs.Prelude.{Option, None, Some}
 use lib.Dec.{eqb, leb, ltb}
 use lib.ListN.{length}
-use borrow.Author.Tests.{eq-eqb, ne_eqb, eqb-true, lt-ltb, le-ltb, le-leb, lt-leb, leb-true, ltb-true}
+use borrow.Author.Tests.{ne_eqb, eqb-true, lt-ltb, le-ltb, le-leb, lt-leb, leb-true, ltb-true}
 use Rattle.output.proofs.Cases.{both_ways, and_true}
 use Rattle.protocol.specs.Reading.{AllBytes}
 use Rattle.text.specs.Line.{tab, minus, line_feed, hex_digit}
@@ -20,23 +20,23 @@ use Rattle.text.proofs.Counting.{one_figure, decimal_ten}
 use Rattle.mouse.specs.Mouse.{held_limit}
 use Rattle.fields.specs.Ranges.{held_zero}
 use Rattle.saved.specs.Line.{signed, motion_text, field_text, fields_text}
-use Rattle.saved.specs.Load.{then, Front, may_follow, number_from, forward, backward, motion_from, field_from, Read, before_them, read_numbers, read_queue, same}
+use Rattle.saved.specs.Load.{then, may_follow, number_from, forward, backward, motion_from, field_from, before_them, read_numbers, read_queue}
 
 -- ---- something could be read
 
-pub absurd_none : {A : Type 0} {x : A} → ◌≡◌ {A = Option A} none (some x) → ⊥
+pub absurd_none : {A : Type 0} {x : A} → ◌≡◌ {A = Option A} None (Some x) → ⊥
 absurd_none e = let z : ◌≡◌ {A = ℕ} 0 1 = cc in omega arith
 
-pub some_same : {A : Type 0} {x y : A} → ◌≡◌ {A = Option A} (some x) (some y) → x ≡ y
+pub some_same : {A : Type 0} {x y : A} → ◌≡◌ {A = Option A} (Some x) (Some y) → x ≡ y
 some_same e = cc
 
 -- both parts could
-pub then_some : {A B : Type 0} (o : Option A) (make : A → Option B) (y : B) → then o make ≡ some y → (x : A) × (o ≡ some x) × (make x ≡ some y)
-then_some none make y e = absurd (absurd_none e)
-then_some (some x) make y e = (x, refl, e)
+pub then_some : {A B : Type 0} (o : Option A) (make : A → Option B) (y : B) → then o make ≡ Some y → (x : A) × (o ≡ Some x) × (make x ≡ Some y)
+then_some None make y e = absurd (absurd_none e)
+then_some (Some x) make y e = (x, refl, e)
 
 -- a test was passed
-pub cond_some : {A : Type 0} (t : Bool) (o : Option A) (y : A) → cond t o none ≡ some y → (t ≡ true) × (o ≡ some y)
+pub cond_some : {A : Type 0} (t : Bool) (o : Option A) (y : A) → cond t o None ≡ Some y → (t ≡ true) × (o ≡ Some y)
 cond_some true o y e = (refl, e)
 cond_some false o y e = absurd (absurd_none e)
 
@@ -75,7 +75,7 @@ digits_on (suc k) n t s h =
           ∙ ap (λ (v : ℕ). number_from false v t) e)
     ]
 
-number_back : (n : ℕ) (l : List ℕ) → n < 65536 → number_from true 0 (decimal n ++ (tab ∷ l)) ≡ some (record { value = n; rest = l })
+number_back : (n : ℕ) (l : List ℕ) → n < 65536 → number_from true 0 (decimal n ++ (tab ∷ l)) ≡ Some (n, l)
 unfolding number_from
 number_back n l h = digits_on 4 n (tab ∷ l) h (omega arith)
 
@@ -91,7 +91,7 @@ first_digit (suc k) n h =
           (i.0, i.1 ++ (figure (n % 10) ∷ []), decimal_ten n (omega arith) ∙ ap (λ (t : List ℕ). t ++ (figure (n % 10) ∷ [])) i.2)
     ]
 
-motion_back : (x : ℕ) (l : List ℕ) → x ≤ held_zero + held_limit → motion_from (motion_text x ++ (tab ∷ l)) ≡ some (record { value = x; rest = l })
+motion_back : (x : ℕ) (l : List ℕ) → x ≤ held_zero + held_limit → motion_from (motion_text x ++ (tab ∷ l)) ≡ Some (x, l)
 unfolding motion_text motion_from
 motion_back x l h =
     elim (dec_lt x held_zero) [
@@ -117,15 +117,15 @@ pub sized_both : (i j : ℕ) (a b : List ℕ) → i + length a ≡ j → Sized i
 sized_both i j [] b e p q = let z : j ≡ i = omega arith in subst (λ (n : ℕ). Sized n b) z q
 sized_both i j (x ∷ a) b e p q = (p.0, sized_both (suc i) j a b (omega arith) p.1 q)
 
-field_back : (i x : ℕ) (l : List ℕ) → x ≤ cond (signed i) (held_zero + held_limit) 65535 → field_from i (field_text i x ++ (tab ∷ l)) ≡ some (record { value = x; rest = l })
+field_back : (i x : ℕ) (l : List ℕ) → x ≤ cond (signed i) (held_zero + held_limit) 65535 → field_from i (field_text i x ++ (tab ∷ l)) ≡ Some (x, l)
 unfolding field_from field_text
 field_back i x l h = go (signed i) h
   where
-    go : (t : Bool) → x ≤ cond t (held_zero + held_limit) 65535 → let f = cond t (motion_text x) (decimal x) ++ (tab ∷ l) in cond t (motion_from f) (number_from true 0 f) ≡ some (record { value = x; rest = l })
+    go : (t : Bool) → x ≤ cond t (held_zero + held_limit) 65535 → let f = cond t (motion_text x) (decimal x) ++ (tab ∷ l) in cond t (motion_from f) (number_from true 0 f) ≡ Some (x, l)
     go true h = motion_back x l h
     go false h = number_back x l (omega arith)
 
-pub numbers_back : (i : ℕ) (a l : List ℕ) → Sized i a → read_numbers (length a) i (fields_text i a ++ l) ≡ some (record { numbers = a; left = l })
+pub numbers_back : (i : ℕ) (a l : List ℕ) → Sized i a → read_numbers (length a) i (fields_text i a ++ l) ≡ Some (a, l)
 unfolding read_numbers fields_text
 numbers_back i [] l z = refl
 numbers_back i (x ∷ a) l z =
@@ -146,15 +146,15 @@ digit_told first v b h =
     some_before false e z = ltb-true 0 v e
 
 -- so it is with what follows
-abbrev Later : List ℕ → Front → Type 0
-Later l f = (n : ℕ) → number_from false n l ≡ some f → decimal n ++ l ≡ decimal f.value ++ (tab ∷ f.rest)
+abbrev Later : List ℕ → ℕ × List ℕ → Type 0
+Later l f = (n : ℕ) → number_from false n l ≡ Some f → decimal n ++ l ≡ decimal f.0 ++ (tab ∷ f.1)
 
-more_there : (l : List ℕ) (v : ℕ) (f : Front) → number_from false v l ≡ some f → decimal v ++ l ≡ decimal f.value ++ (tab ∷ f.rest)
+more_there : (l : List ℕ) (v : ℕ) (f : ℕ × List ℕ) → number_from false v l ≡ Some f → decimal v ++ l ≡ decimal f.0 ++ (tab ∷ f.1)
 unfolding number_from
 more_there [] v f e = absurd (absurd_none e)
 more_there (b ∷ l) v f e = by (eqb b tab) refl e (λ n k. more_there l n f k)
   where
-    digit : Later l f → may_follow false v b ≡ true → number_from false (v * 10 + (b - code "0")) l ≡ some f → decimal v ++ (b ∷ l) ≡ decimal f.value ++ (tab ∷ f.rest)
+    digit : Later l f → may_follow false v b ≡ true → number_from false (v * 10 + (b - code "0")) l ≡ Some f → decimal v ++ (b ∷ l) ≡ decimal f.0 ++ (tab ∷ f.1)
     digit later m e =
         let u = digit_told false v b m in
         let low = u.0 in
@@ -166,16 +166,16 @@ more_there (b ∷ l) v f e = by (eqb b tab) refl e (λ n k. more_there l n f k)
         let d : decimal n ≡ decimal v ++ (b ∷ []) = decimal_ten n (omega arith) ∙ rw (q, r) refl in
         sym (append_assoc (decimal v) (b ∷ []) l) ∙ ap (λ (t : List ℕ). t ++ l) (sym d) ∙ later n e
 
-    by : (t : Bool) → eqb b tab ≡ t → cond t (some (record { value = v; rest = l })) (cond (may_follow false v b) (number_from false (v * 10 + (b - code "0")) l) none) ≡ some f → Later l f → decimal v ++ (b ∷ l) ≡ decimal f.value ++ (tab ∷ f.rest)
+    by : (t : Bool) → eqb b tab ≡ t → cond t (Some (v, l)) (cond (may_follow false v b) (number_from false (v * 10 + (b - code "0")) l) None) ≡ Some f → Later l f → decimal v ++ (b ∷ l) ≡ decimal f.0 ++ (tab ∷ f.1)
     by true k e later = let z = some_same e in let w = eqb-true b tab k in rw (w, ← z) refl
     by false k e later = let u = cond_some (may_follow false v b) (number_from false (v * 10 + (b - code "0")) l) f e in digit later u.0 u.1
 
-number_there : (l : List ℕ) (f : Front) → number_from true 0 l ≡ some f → l ≡ decimal f.value ++ (tab ∷ f.rest)
+number_there : (l : List ℕ) (f : ℕ × List ℕ) → number_from true 0 l ≡ Some f → l ≡ decimal f.0 ++ (tab ∷ f.1)
 unfolding number_from
 number_there [] f e = absurd (absurd_none e)
 number_there (b ∷ l) f e = by (eqb b tab) e
   where
-    digit : may_follow true 0 b ≡ true → number_from false (0 * 10 + (b - code "0")) l ≡ some f → b ∷ l ≡ decimal f.value ++ (tab ∷ f.rest)
+    digit : may_follow true 0 b ≡ true → number_from false (0 * 10 + (b - code "0")) l ≡ Some f → b ∷ l ≡ decimal f.0 ++ (tab ∷ f.1)
     digit m e =
         let u = digit_told true 0 b m in
         let low = u.0 in
@@ -185,65 +185,65 @@ number_there (b ∷ l) f e = by (eqb b tab) e
         let d : decimal n ≡ b ∷ [] = one_figure n n (omega arith) ∙ ap (λ (x : ℕ). x ∷ []) r in
         ap (λ (t : List ℕ). t ++ l) (sym d) ∙ more_there l n f e
 
-    by : (t : Bool) → cond t none (cond (may_follow true 0 b) (number_from false (0 * 10 + (b - code "0")) l) none) ≡ some f → b ∷ l ≡ decimal f.value ++ (tab ∷ f.rest)
+    by : (t : Bool) → cond t None (cond (may_follow true 0 b) (number_from false (0 * 10 + (b - code "0")) l) None) ≡ Some f → b ∷ l ≡ decimal f.0 ++ (tab ∷ f.1)
     by true e = absurd (absurd_none e)
     by false e = let u = cond_some (may_follow true 0 b) (number_from false (0 * 10 + (b - code "0")) l) f e in digit u.0 u.1
 
-motion_there : (l : List ℕ) (f : Front) → motion_from l ≡ some f → l ≡ motion_text f.value ++ (tab ∷ f.rest)
+motion_there : (l : List ℕ) (f : ℕ × List ℕ) → motion_from l ≡ Some f → l ≡ motion_text f.0 ++ (tab ∷ f.1)
 unfolding motion_from motion_text
 motion_there [] f e = absurd (absurd_none e)
 motion_there (b ∷ l) f e = by (eqb b minus) refl e
   where
-    by : (t : Bool) → eqb b minus ≡ t → cond t (then (number_from true 0 l) backward) (then (number_from true 0 (b ∷ l)) forward) ≡ some f
-        → b ∷ l ≡ cond (ltb f.value held_zero) (minus ∷ decimal (held_zero - f.value)) (decimal (f.value - held_zero)) ++ (tab ∷ f.rest)
+    by : (t : Bool) → eqb b minus ≡ t → cond t (then (number_from true 0 l) backward) (then (number_from true 0 (b ∷ l)) forward) ≡ Some f
+        → b ∷ l ≡ cond (ltb f.0 held_zero) (minus ∷ decimal (held_zero - f.0)) (decimal (f.0 - held_zero)) ++ (tab ∷ f.1)
     by true k e =
         let u = then_some (number_from true 0 l) backward f e in
         let g = u.0 in
-        let w = cond_some (ltb 0 g.value && leb g.value held_limit) (some (record { value = held_zero - g.value; rest = g.rest })) f u.2 in
-        let x = and_true (ltb 0 g.value) (leb g.value held_limit) w.0 in
-        let pos = ltb-true 0 g.value x.0 in
-        let most = leb-true g.value held_limit x.1 in
+        let w = cond_some (ltb 0 g.0 && leb g.0 held_limit) (Some (held_zero - g.0, g.1)) f u.2 in
+        let x = and_true (ltb 0 g.0) (leb g.0 held_limit) w.0 in
+        let pos = ltb-true 0 g.0 x.0 in
+        let most = leb-true g.0 held_limit x.1 in
         let z = some_same w.1 in
-        let v : held_zero - (held_zero - g.value) ≡ g.value = omega arith in
-        rw (← z, lt-ltb (held_zero - g.value) held_zero (omega arith), v, eqb-true b minus k) (ap (λ (t : List ℕ). minus ∷ t) (number_there l g u.1))
+        let v : held_zero - (held_zero - g.0) ≡ g.0 = omega arith in
+        rw (← z, lt-ltb (held_zero - g.0) held_zero (omega arith), v, eqb-true b minus k) (ap (λ (t : List ℕ). minus ∷ t) (number_there l g u.1))
     by false k e =
         let u = then_some (number_from true 0 (b ∷ l)) forward f e in
         let g = u.0 in
-        let w = cond_some (leb g.value held_limit) (some (record { value = held_zero + g.value; rest = g.rest })) f u.2 in
+        let w = cond_some (leb g.0 held_limit) (Some (held_zero + g.0, g.1)) f u.2 in
         let z = some_same w.1 in
-        let v : held_zero + g.value - held_zero ≡ g.value = omega arith in
-        rw (← z, le-ltb (held_zero + g.value) held_zero (omega arith), v) (number_there (b ∷ l) g u.1)
+        let v : held_zero + g.0 - held_zero ≡ g.0 = omega arith in
+        rw (← z, le-ltb (held_zero + g.0) held_zero (omega arith), v) (number_there (b ∷ l) g u.1)
 
-field_there : (i : ℕ) (l : List ℕ) (f : Front) → field_from i l ≡ some f → l ≡ field_text i f.value ++ (tab ∷ f.rest)
+field_there : (i : ℕ) (l : List ℕ) (f : ℕ × List ℕ) → field_from i l ≡ Some f → l ≡ field_text i f.0 ++ (tab ∷ f.1)
 unfolding field_from field_text
 field_there i l f e = go (signed i) e
   where
-    go : (t : Bool) → cond t (motion_from l) (number_from true 0 l) ≡ some f → l ≡ cond t (motion_text f.value) (decimal f.value) ++ (tab ∷ f.rest)
+    go : (t : Bool) → cond t (motion_from l) (number_from true 0 l) ≡ Some f → l ≡ cond t (motion_text f.0) (decimal f.0) ++ (tab ∷ f.1)
     go true e = motion_there l f e
     go false e = number_there l f e
 
 -- as many numbers as were asked for, and their text
-pub record Spelt (n i : ℕ) (l : List ℕ) (r : Read) : Type 0 where
-  pub count : length r.numbers ≡ n
-  pub spelling : l ≡ fields_text i r.numbers ++ r.left
+pub record Spelt (n i : ℕ) (l : List ℕ) (r : List ℕ × List ℕ) : Type 0 where
+  pub count : length r.0 ≡ n
+  pub spelling : l ≡ fields_text i r.0 ++ r.1
 
-pub numbers_there : (n i : ℕ) (l : List ℕ) (r : Read) → read_numbers n i l ≡ some r → Spelt n i l r
+pub numbers_there : (n i : ℕ) (l : List ℕ) (r : List ℕ × List ℕ) → read_numbers n i l ≡ Some r → Spelt n i l r
 unfolding read_numbers fields_text
 numbers_there zero i l r e = let z = some_same e in subst (Spelt zero i l) z (record { count = refl; spelling = refl })
 numbers_there (suc n) i l r e =
-    let u = then_some (field_from i l) (λ f. then (read_numbers n (suc i) f.rest) (before_them f.value)) r e in
+    let u = then_some (field_from i l) (λ f. then (read_numbers n (suc i) f.1) (before_them f.0)) r e in
     let f = u.0 in
-    let v = then_some (read_numbers n (suc i) f.rest) (before_them f.value) r u.2 in
+    let v = then_some (read_numbers n (suc i) f.1) (before_them f.0) r u.2 in
     let q = v.0 in
-    let s = numbers_there n (suc i) f.rest q v.1 in
+    let s = numbers_there n (suc i) f.1 q v.1 in
     let z = some_same v.2 in
     subst (Spelt (suc n) i l) z
     (record {
       count = ap suc s.count;
       spelling =
           field_there i l f u.1
-          ∙ ap (λ (t : List ℕ). field_text i f.value ++ (tab ∷ t)) s.spelling
-          ∙ sym (append_assoc (field_text i f.value) (tab ∷ fields_text (suc i) q.numbers) q.left);
+          ∙ ap (λ (t : List ℕ). field_text i f.0 ++ (tab ∷ t)) s.spelling
+          ∙ sym (append_assoc (field_text i f.0) (tab ∷ fields_text (suc i) q.0) q.1);
     })
 
 -- ---- the queue
@@ -279,17 +279,3 @@ unfolding read_queue
 queue_bytes [] = tt
 queue_bytes (a ∷ []) = tt
 queue_bytes (a ∷ b ∷ l) = both_ways AllBytes (eqb a minus) (λ _. tt) (λ _. (omega arith, queue_bytes l))
-
--- ---- texts that are the same
-
-pub same_true : (l m : List ℕ) → same l m ≡ true → l ≡ m
-unfolding same
-same_true [] [] h = refl
-same_true [] (b ∷ m) h = absurd (true≢false (sym h))
-same_true (a ∷ l) [] h = absurd (true≢false (sym h))
-same_true (a ∷ l) (b ∷ m) h = let p = and_true (eqb a b) (same l m) h in let e = eqb-true a b p.0 in let r = same_true l m p.1 in cc
-
-pub same_self : (l : List ℕ) → same l l ≡ true
-unfolding same
-same_self [] = refl
-same_self (a ∷ l) = rw (eq-eqb a a refl, same_self l)

@@ -1,6 +1,5 @@
--- The map of the keys as digits (document 02, A2).
-use Rattle.std.specs.Prelude.{ℕ, zero, suc, ◌+◌, ◌-◌, ◌*◌, ◌/◌, ◌%◌, Bool, true, false, cond, ◌&&◌, ◌||◌, List, [], ◌∷◌, eqb, drop}
-use Rattle.std.proofs.Math.Option.{Option, none, some}
+-- The map of the keys as digits.
+use Rattle.std.specs.Prelude.{ℕ, zero, suc, ◌+◌, ◌-◌, ◌*◌, ◌/◌, ◌%◌, Bool, true, false, cond, ◌&&◌, ◌||◌, List, [], ◌∷◌, eqb, drop, Option, Some, None}
 use Rattle.output.specs.ScanCodes.{first_key, last_key}
 use Rattle.output.specs.Packets.{bit}
 use Rattle.keys.specs.declared.Keys.{Keys}
@@ -36,7 +35,7 @@ word_of (suc n) (b ∷ l) = (b - figure 0) + 2 * word_of n l
 
 -- a word at the front of a text
 unfoldable pub word_from : ℕ → List ℕ → Option ℕ
-word_from n l = cond (are_digits n l) (some (word_of n l)) none
+word_from n l = cond (are_digits n l) (Some (word_of n l)) None
 
 -- whether a text begins with this byte
 unfoldable pub begins_with : ℕ → List ℕ → Bool
@@ -53,4 +52,4 @@ has_map l = are_digits last_key l && begins_with tab (drop last_key l)
 
 -- the map at the front of a text
 unfoldable pub map_from : List ℕ → Option Keys
-map_from l = cond (has_map l) (some (map_of l)) none
+map_from l = cond (has_map l) (Some (map_of l)) None

@@ -1,4 +1,4 @@
--- A state as one line of text (document 02, A2): its numbers, the map of the keys, the queue, and a line feed.
+-- A state as one line of text: its numbers, the map of the keys, the queue, and a line feed.
 use Rattle.std.specs.Prelude.{ℕ, suc, ◌-◌, Bool, cond, ◌||◌, List, [], ◌∷◌, ◌++◌, eqb, ltb}
 use Rattle.protocol.specs.Reading.{AllBytes}
 use Rattle.controller.specs.declared.State.{State}

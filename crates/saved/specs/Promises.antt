@@ -1,16 +1,12 @@
--- What is promised of saved lines (document 02, A2). Each is proved in proofs/Promises.
-use Rattle.std.specs.Prelude.{ℕ, ◌≤◌, ◌≡◌, List, length, take}
-use Rattle.std.proofs.Math.Option.{some}
+-- What is promised of saved lines. Each is proved in proofs/Promises.
+use Rattle.std.specs.Prelude.{ℕ, ◌≤◌, ◌≡◌, List, length, take, Some, Ok, Err}
 use Rattle.controller.specs.declared.State.{State}
 use Rattle.controller.specs.State.{IsState, power_up, queue_room}
-use Rattle.saved.specs.declared.Save.TheVariants.{Written}
-use Rattle.saved.specs.declared.Saved.{Saved}
-use Rattle.saved.specs.declared.Load.TheVariants.{NoState}
 use Rattle.saved.specs.Line.{line_of, InTypes}
 use Rattle.saved.specs.Load.{load}
-use Rattle.saved.specs.Answers.{SavedAs, load_number, loaded, line_room}
+use Rattle.saved.specs.Answers.{no_state, SavedAs, load_number, loaded, line_room}
 
--- "such state": one "within document 01's ranges", with at most `room` bytes in its queue
+-- "such state": one whose fields are in their ranges, with at most `room` bytes in its queue
 pub record Such (room : ℕ) (s : State) : Type 0 where
   pub state : IsState s
   pub types : InTypes s
@@ -18,11 +14,11 @@ pub record Such (room : ℕ) (s : State) : Type 0 where
 
 -- "Writing and reading undo each other": what is written is read as the state
 abbrev pub ReadsBack : Type 0
-ReadsBack = (room : ℕ) (s : State) → Such room s → load room (line_of s) ≡ some s
+ReadsBack = (room : ℕ) (s : State) → Such room s → load room (line_of s) ≡ Some s
 
 -- and what is read is such a state, whose line is the one that was read
 abbrev pub WritesBack : Type 0
-WritesBack = (room : ℕ) (l : List ℕ) (s : State) → load room l ≡ some s → Such room s × (line_of s ≡ l)
+WritesBack = (room : ℕ) (l : List ℕ) (s : State) → load room l ≡ Some s → Such room s × (line_of s ≡ l)
 
 -- no such state writes the line
 abbrev pub NoneWrites : ℕ → List ℕ → Type 0
@@ -31,13 +27,13 @@ NoneWrites room l = (s : State) → Such room s → line_of s ≡ l → ⊥
 -- "Refusals: 5, given exactly when the line is one that no such state writes, and power-up is handed back."
 pub record RefusedExactly (room : ℕ) (l : List ℕ) : Type 0 where
   pub only_then : load_number (loaded (load room l)).answer ≡ 5 → NoneWrites room l
-  pub always_then : NoneWrites room l → loaded (load room l) ≡ record { answer = NoState; state = power_up }
+  pub always_then : NoneWrites room l → loaded (load room l) ≡ record { state = power_up; answer = Err no_state }
 
 -- of every string of bytes
 abbrev pub Refused : Type 0
 Refused = (room : ℕ) (l : List ℕ) → RefusedExactly room l
 
--- "each state within document 01's ranges has one line": `line_of` is a function, so that it has no second; and no two states have the same
+-- "each state within the ranges has one line": `line_of` is a function, so that it has no second; and no two states have the same
 abbrev pub OneState : Type 0
 OneState = (s t : State) → Such queue_room s → Such queue_room t → line_of s ≡ line_of t → s ≡ t
 
@@ -48,6 +44,6 @@ RoomForAll = (s : State) → IsState s → length (line_of s) ≤ line_room
 -- the same over a call: what a write that was taken left in the buffer is read as the state
 abbrev pub CallsUndo : Type 0
 CallsUndo =
-    (s : State) (before after : List ℕ) (r : Saved) →
-    Such queue_room s → SavedAs (line_of s) before r after → r.answer ≡ Written →
-    load queue_room (take r.count after) ≡ some s
+    (s : State) (before after : List ℕ) (n : ℕ) →
+    Such queue_room s → SavedAs (line_of s) before (Ok n) after →
+    load queue_room (take n after) ≡ Some s

@@ -35,13 +35,14 @@ fn put_decimal(x: u16, out: &mut [u8]) -> usize
 }
 
 // Held motion, which comes with its limit added.
+#[tactic(auto, unfolding(crate::specs::Line::motion_text))]
 fn put_motion(x: u16, out: &mut [u8]) -> usize
     requires { field_width ≤ length out.old }
     ensures { Wrote (motion_text x) result out.old out.new }
 {
     if x < State::HELD_LIMIT {
-        let n = output::copy(b"-", 1, out);
-        return n + text::write_decimal((State::HELD_LIMIT - x) as u64, &mut out[n..]);
+        out[0] = b'-';
+        return 1 + text::write_decimal((State::HELD_LIMIT - x) as u64, &mut out[1..]);
     }
     put_decimal(x - State::HELD_LIMIT, out)
 }
@@ -50,21 +51,20 @@ fn put_motion(x: u16, out: &mut [u8]) -> usize
 pub(crate) fn signed(i: usize) -> bool
     ensures { result ≡ signed i }
 {
-    if i == 25 {
-        return true;
-    }
-    i == 26
+    matches!(i, fields::HELD_X | fields::HELD_Y)
 }
 
 // Field i + 1.
+#[tactic(auto, unfolding(crate::specs::Line::field_text))]
 fn put_number(i: usize, x: u16, out: &mut [u8]) -> usize
     requires { field_width ≤ length out.old }
     ensures { Wrote (field_text i x) result out.old out.new }
 {
     if signed(i) {
-        return put_motion(x, out);
+        put_motion(x, out)
+    } else {
+        put_decimal(x, out)
     }
-    put_decimal(x, out)
 }
 
 // Field i + 1, and the tab after it.
@@ -81,12 +81,9 @@ fn put_fields(a: [u16; fields::COUNT], out: &mut [u8]) -> usize
     requires { field_width * numbered ≤ length out.old }
     ensures { (Wrote (fields_text 0 a) result out.old out.new) × (result ≤ field_width * numbered) }
 {
-    let mut i = 0;
     let mut at = 0;
-    while i < fields::COUNT {
-        let k = put_field(i, a[i], &mut out[at..]);
-        at += k;
-        i += 1;
+    for (i, x) in a.iter().enumerate() {
+        at += put_field(i, *x, &mut out[at..]);
     }
     at
 }
@@ -97,11 +94,9 @@ fn put_word(word: u64, n: usize, out: &mut [u8]) -> usize
     ensures { Wrote (word_digits n word) result out.old out.new }
 {
     let mut rest = word;
-    let mut i = 0;
-    while i < n {
+    for i in 0..n {
         out[i] = b'0' + (rest % 2) as u8;
         rest /= 2;
-        i += 1;
     }
     n
 }
@@ -119,12 +114,11 @@ fn put_map(keys: Keys, out: &mut [u8]) -> usize
 
 // The queue, and the line feed after it.
 pub(crate) fn put_queue(queue: Queue, out: &mut [u8]) -> usize
-    requires len_le_queue_room { (queue.len ≤ queue_room) × (length queue.bytes ≡ queue_room) }
-    requires queue_room_in_bounds { 2 * queue_room + 1 ≤ length out.old }
+    requires queue { (queue.len ≤ queue_room) × (length queue.bytes ≡ queue_room) }
+    requires room { 2 * queue_room + 1 ≤ length out.old }
     ensures { (Wrote (shown (contents queue) ++ (line_feed ∷ [])) result out.old out.new) × (result ≤ 2 * queue_room + 1) }
 {
-    let bytes = queue.bytes;
-    let n = text::write_shown(&bytes, queue.len, out);
+    let n = text::write_shown(&queue.bytes[..queue.len], out);
     out[n] = b'\n';
     n + 1
 }
@@ -132,7 +126,7 @@ pub(crate) fn put_queue(queue: Queue, out: &mut [u8]) -> usize
 // The line of a state, and how many bytes it has.
 pub(crate) fn put_line(state: State, out: &mut [u8]) -> usize
     requires state { IsState state }
-    requires line_room_in_bounds { line_room ≤ length out.old }
+    requires room { line_room ≤ length out.old }
     ensures { (Wrote (line_of state) result out.old out.new) × (result ≤ line_room) }
 {
     let a = fields::numbers(state);

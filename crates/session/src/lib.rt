@@ -10,7 +10,6 @@ ghost use Rattle.text.specs.Output.{line_room};
 ghost use Rattle.session.specs.Play.{printed, state_then};
 
 use controller::State;
-use text::Read;
 
 mod ask;
 mod lines;
@@ -22,7 +21,7 @@ pub use lines::{Fed, Session, finish, keep, keep_most, line_end};
 pub(crate) const BAD_LINE: u8 = 9;
 
 // What a line came to: the state afterwards, and how many bytes were printed.
-#[derive(Clone, Copy)]
+#[derive(Clone, Copy, Debug, PartialEq, Eq)]
 pub struct Played {
     pub state: State,
     pub count: usize,
@@ -32,26 +31,23 @@ pub struct Played {
 // is written. What stands in `lent` afterwards is left free: it is all in the line of output.
 pub fn play(state: State, number: u64, text: &[u8], lent: &mut [u8], out: &mut [u8]) -> Played
     requires state { IsState state }
-    requires text_in_bounds { length (first_line text.now) < length text.now }
-    requires lent_in_bounds { line_room (length lent.old) ≤ length out.old }
+    requires line { length (first_line text.now) < length text.now }
+    requires room { line_room (length lent.old) ≤ length out.old }
     ensures printed { Wrote (printed state (length lent.old) number (line_of (first_line text.now))) result.count out.old out.new }
     ensures next { result.state ≡ state_then state (length lent.old) (line_of (first_line text.now)) }
     ensures keeps { IsState result.state }
 {
-    let read = text::read_line(text);
-    let Read::Whole { input, len: _ } = read else {
-        let n = text::write_line(number, BAD_LINE, lent, 0, out);
-        return Played {
-            state: state,
-            count: n,
-        };
+    let Some((input, _)) = text::read_line(text) else {
+        let count = text::write_line(number, BAD_LINE, &[], out);
+        return Played { state, count };
     };
     let done = state.step(input, lent);
-    let answer = done.answer;
-    let next = done.state;
-    let n = text::write_line(number, answer.number(), lent, done.count, out);
+    let answer = controller::number(done.answer);
+    let written = done.answer.unwrap_or(0);
+    let sent = &lent[..written];
+    let count = text::write_line(number, answer, sent, out);
     Played {
-        state: next,
-        count: n,
+        state: done.state,
+        count,
     }
 }

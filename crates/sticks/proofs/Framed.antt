@@ -1,10 +1,11 @@
 -- Outside the monitoring modes, each packet of the joysticks says itself where it ends.
 -- Assumes nothing.
-use Prim.Native.Nat.{ℕ}
+use Prim.Native.Nat.{ℕ, ◌≤◌}
+use native.Mathlib.Omega.{arith}
 use mathlib.Core.Path.{◌≡◌, sym, ◌∙◌}
-use mathlib.Core.Bool.{Bool, false, true≢false}
+use mathlib.Core.Bool.{Bool, true, false, true≢false}
 use mathlib.Core.List.{List}
-use Rattle.output.specs.Packets.{Packet}
+use Rattle.output.specs.Packets.{Packet, bit}
 use Rattle.output.proofs.Framed.{AllFramed, framed_append}
 use Rattle.protocol.specs.Settings.{monitors}
 use Rattle.protocol.specs.declared.StickMode.{StickMode}
@@ -15,8 +16,12 @@ use Rattle.sticks.specs.declared.Sticks.{Sticks}
 use Rattle.sticks.specs.Events.{stick_moved}
 use Rattle.sticks.specs.Ticks.{ticked, sampled}
 use Rattle.sticks.specs.Commands.{commanded}
-use Rattle.sticks.proofs.Codes.{bit_most}
 use Rattle.sticks.proofs.Sends.{OfEach, of_stick_moved, of_ticked, of_sampled, of_commanded}
+
+-- a bit is 0 or 1
+bit_most : (b : Bool) → bit b ≤ 1
+bit_most true = omega arith
+bit_most false = omega arith
 
 -- packets of which each does, however many bytes they have
 record Ends (n : ℕ) (ps : List Packet) : Type 0 where

@@ -1,5 +1,5 @@
 -- The joysticks' part of the state: ranges, power-up, bytes and directions (document 01, "What the state holds" and "Sticks, samples, clock").
-use Rattle.std.specs.Prelude.{ℕ, ◌+◌, ◌-◌, ◌*◌, ◌/◌, ◌%◌, ◌^◌, ◌≤◌, ◌<◌, Bool, false, cond, List, [], eqb}
+use Rattle.std.specs.Prelude.{ℕ, ◌+◌, ◌-◌, ◌*◌, ◌/◌, ◌%◌, ◌^◌, ◌≤◌, ◌<◌, Bool, true, false, cond, List, [], eqb}
 use Rattle.output.specs.ScanCodes.{arrow_right, arrow_left, arrow_up, arrow_down}
 use Rattle.output.specs.Packets.{Packet, bit, bytes}
 use Rattle.output.specs.Short.{short_of}
@@ -10,6 +10,8 @@ use Rattle.sticks.specs.declared.Stick.{Stick}
 use Rattle.sticks.specs.declared.Count.{Count}
 use Rattle.sticks.specs.declared.Sticks.{Sticks}
 use Rattle.sticks.specs.declared.SticksTold.{SticksTold}
+use Rattle.sticks.specs.declared.Which.{Which}
+use Rattle.sticks.specs.declared.Which.TheVariants.{Zero, One}
 
 -- "position 0 to 15"
 abbrev pub most_position : ℕ
@@ -94,6 +96,11 @@ unmoved c = record { packets = []; count = c }
 -- "its byte (128·trigger + position)"
 abbrev pub byte : Stick → ℕ
 byte k = 128 * bit k.trigger + k.position
+
+-- which stick the code names: stick 1 (true) or stick 0
+abbrev pub is_one : Which → Bool
+is_one Zero = false
+is_one One = true
 
 -- stick 1 (true) or stick 0
 abbrev pub stick_at : Bool → Sticks → Stick

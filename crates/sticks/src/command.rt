@@ -9,13 +9,14 @@ use protocol::{MouseCommand, StickCommand, StickMode};
 
 impl Sticks {
     // A command of the joysticks, in the mode `mode`.
+    #[tactic(auto, unfolding(crate::specs::Commands::commanded))]
     pub fn commanded(self, c: StickCommand, mode: StickMode) -> SticksTold
         requires { (self.zero.position ≤ below_trigger) × (self.one.position ≤ below_trigger) }
         ensures { result ≡ told_of (commanded c mode self) }
     {
         match c {
             StickCommand::ReportSticks => SticksTold {
-                short: Short::three(0xFD, self.zero.byte(), self.one.byte()),
+                short: Short::of([0xFD, self.zero.byte(), self.one.byte()]),
                 sticks: self,
             },
             StickCommand::SticksOff => self.monitoring_left(mode).quiet(),
@@ -24,6 +25,8 @@ impl Sticks {
     }
 
     // A command of the mouse: the three that set its mode leave a monitoring mode.
+
+    #[tactic(auto, unfolding(crate::specs::Commands::mouse_commanded))]
     pub fn mouse_commanded(self, c: MouseCommand, mode: StickMode) -> Sticks
         ensures { result ≡ mouse_commanded c mode self }
     {
@@ -38,8 +41,8 @@ impl Sticks {
         ensures { result ≡ cleared self }
     {
         Sticks {
-            x: Count { age: 0, wait: 0 },
-            y: Count { age: 0, wait: 0 },
+            x: Count::none(),
+            y: Count::none(),
             ticks: 0,
             samples: 0,
             bits: 0,
@@ -48,17 +51,15 @@ impl Sticks {
     }
 
     // A monitoring mode that is left takes what it has gathered with it.
+    #[tactic(auto, unfolding(crate::specs::Commands::monitoring_left))]
     fn monitoring_left(mut self, mode: StickMode) -> Self
         ensures { result ≡ monitoring_left mode self }
     {
-        match mode {
-            StickMode::Monitoring { rate: _ } | StickMode::Fire => {
-                self.ticks = 0;
-                self.samples = 0;
-                self.bits = 0;
-                self
-            }
-            _ => self,
+        if mode.is_monitoring() {
+            self.ticks = 0;
+            self.samples = 0;
+            self.bits = 0;
         }
+        self
     }
 }

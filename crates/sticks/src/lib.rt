@@ -8,26 +8,33 @@ mod keycode;
 mod tick;
 
 ghost use Rattle.std.specs.Prelude.{◌≡◌, ◌≤◌};
-ghost use Rattle.sticks.specs.Sticks.{below_trigger, at_power_up, quiet, told_of, byte};
+ghost use Rattle.sticks.specs.Sticks.{below_trigger, no_count, at_power_up, quiet, told_of, byte};
 
 use output::Short;
 
 // Bits 0 to 3 of the position are up, down, left, right.
-#[derive(Clone, Copy)]
+#[derive(Clone, Copy, Debug, PartialEq, Eq)]
 pub struct Stick {
     pub position: u8,
     pub trigger: bool,
 }
 
+// The two sticks.
+#[derive(Clone, Copy, Debug, PartialEq, Eq)]
+pub enum Which {
+    Zero,
+    One,
+}
+
 // How long an axis has had its direction, and how long it has been since its last arrow key, in ticks.
-#[derive(Clone, Copy)]
+#[derive(Clone, Copy, Debug, PartialEq, Eq)]
 pub struct Count {
     pub age: u16,
     pub wait: u16,
 }
 
 // `ticks` since the last monitoring report; `samples` of the fire button so far, as the low bits of `bits`, the last in bit 0.
-#[derive(Clone, Copy)]
+#[derive(Clone, Copy, Debug, PartialEq, Eq)]
 pub struct Sticks {
     pub zero: Stick,
     pub one: Stick,
@@ -39,29 +46,35 @@ pub struct Sticks {
 }
 
 // What something that happens to the sticks comes to: the bytes due, and the sticks afterwards.
-#[derive(Clone, Copy)]
+#[derive(Clone, Copy, Debug, PartialEq, Eq)]
 pub struct SticksTold {
     pub short: Short,
     pub sticks: Sticks,
 }
 
-// The same for one axis of stick 0 in keycode mode: the make code of the arrow key that is due, 0 for none, and the counts afterwards.
-#[derive(Clone, Copy)]
+// The same for one axis of stick 0 in keycode mode: the make code of the arrow key that is due, and the counts afterwards.
+#[derive(Clone, Copy, Debug, PartialEq, Eq)]
 pub(crate) struct AxisTold {
-    arrow: u8,
+    arrow: Option<u8>,
     count: Count,
 }
 
 impl Stick {
-    // A position leaves bit 7 to the trigger.
+    // As a report tells it. A position leaves bit 7 to the trigger.
     pub(crate) fn byte(self) -> u8
         requires { self.position ≤ below_trigger }
         ensures { result ≡ byte self }
     {
-        if self.trigger {
-            return 0x80 + self.position;
-        }
-        self.position
+        0x80 * u8::from(self.trigger) + self.position
+    }
+}
+
+impl Count {
+    // That of an axis which has just turned, and where nothing is counted.
+    pub(crate) fn none() -> Self
+        ensures { result ≡ no_count }
+    {
+        Count { age: 0, wait: 0 }
     }
 }
 
@@ -78,8 +91,8 @@ impl Sticks {
                 position: 0,
                 trigger: false,
             },
-            x: Count { age: 0, wait: 0 },
-            y: Count { age: 0, wait: 0 },
+            x: Count::none(),
+            y: Count::none(),
             ticks: 0,
             samples: 0,
             bits: 0,
@@ -91,7 +104,7 @@ impl Sticks {
         ensures { result ≡ told_of (quiet self) }
     {
         SticksTold {
-            short: Short::none(),
+            short: Short::of([]),
             sticks: self,
         }
     }

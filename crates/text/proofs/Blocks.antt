@@ -87,10 +87,7 @@ four_more n r l X f g w = rw (four_is n f g) w
 pub block_length : (n : ℕ) → 10000 ≤ n → length (decimal n) ≡ length (decimal (n / 10000)) + 4
 block_length n h = ap length (block_is n (n % 10000) h refl) ∙ length-append (decimal (n / 10000)) (four_figures (n % 10000))
 
-pub block_wrote : (n r : ℕ) (l X : List ℕ) → 10000 ≤ n → Wrote (decimal (n / 10000) ++ four_figures (n - n / 10000 * 10000)) r l X → Wrote (decimal n) r l X
-block_wrote n r l X h w = rw (block_is n (n - n / 10000 * 10000) h (omega arith)) w
-
--- the same, as two stages leave it in a buffer
+-- what two stages leave in a buffer
 pub block_over : (n : ℕ) (l : List ℕ) → 10000 ≤ n →
     let a = decimal (n / 10000) in
     let b = four_figures (n - n / 10000 * 10000) in
@@ -104,3 +101,21 @@ block_over n l h =
     let first : Wrote a (length a) l x = record { count = refl; buffer = refl } in
     let second : Wrote b (length b) y (over b y) = record { count = refl; buffer = refl } in
     ap (λ (d : List ℕ). over d l) (block_is n (n - n / 10000 * 10000) h (omega arith)) ∙ sym (both first second).buffer
+
+-- ---- a number of nine digits or more ends in eight
+
+long_is : (n : ℕ) → 100000000 ≤ n → decimal n ≡ (decimal (n / 100000000) ++ four_figures (n % 100000000 / 10000)) ++ four_figures (n % 100000000 % 10000)
+long_is n h =
+    let low : n % 100000000 % 10000 ≡ n % 10000 = omega arith in
+    let middle : n % 100000000 / 10000 ≡ n / 10000 % 10000 = omega arith in
+    let high : n / 10000 / 10000 ≡ n / 100000000 = omega arith in
+    block_is n (n % 100000000 % 10000) (omega arith) low
+    ∙ ap (λ (l : List ℕ). l ++ four_figures (n % 100000000 % 10000)) (block_is (n / 10000) (n % 100000000 / 10000) (omega arith) middle)
+    ∙ ap (λ (q : ℕ). (decimal q ++ four_figures (n % 100000000 / 10000)) ++ four_figures (n % 100000000 % 10000)) high
+
+pub long_length : (n : ℕ) → 100000000 ≤ n → length (decimal n) ≡ length (decimal (n / 100000000)) + 8
+long_length n h =
+    let a = decimal (n / 100000000) ++ four_figures (n % 100000000 / 10000) in
+    ap length (long_is n h)
+    ∙ length-append a (four_figures (n % 100000000 % 10000))
+    ∙ omega (arith, length-append (decimal (n / 100000000)) (four_figures (n % 100000000 / 10000)))

@@ -1,28 +1,28 @@
--- Lines of document 01 and of the readings of it, computed.
+-- Lines of a session, and lines of each kind, good and bad, computed.
 -- Assumes nothing.
 use Prim.Native.Nat.{◌-◌, ◌^◌}
 use Prim.Native.String.{String}
 use mathlib.Core.Path.{◌≡◌, refl}
 use mathlib.Core.Bool.{true, false}
 use mathlib.Core.List.{List, [], ◌∷◌, ◌++◌, map}
+use Rattle.std.specs.Prelude.{Some, None}
 use lib.IntN.{pos, negsuc}
 use lib.ListN.{length}
 use Rattle.mouse.specs.declared.Side.TheVariants.{Left, Right}
 use Rattle.controller.specs.declared.Input.TheVariants.{Byte, Key, Button, Move, Joystick, Sample, Tick}
 use Rattle.text.specs.Line.{Line, Good, Bad, fields, hex_digit, hex, natural, number, level, kind, meaning, line_of, longest}
-use Rattle.text.specs.declared.Read.TheVariants.{Whole, Unread}
-use Rattle.text.specs.Fronts.{until}
-use Rattle.text.specs.Reading.{reads, read_of}
+use Rattle.text.specs.Fronts.{until, upto}
+use Rattle.text.specs.Reading.{read_of}
 use Rattle.text.specs.Output.{text, header, decimal, decimal_in, hex_figure, hex_bytes, shown, output_line, line_room}
 
 abbrev lines : List String → List Line
 lines = map (λ (s : String). line_of (text s))
 
 rules : Unit {0}
-unfolding fields hex_digit hex natural number level kind meaning line_of until reads read_of decimal_in hex_figure hex_bytes shown output_line
+unfolding fields hex_digit hex natural number level kind meaning line_of until upto decimal_in hex_figure hex_bytes shown output_line
 rules = tt
 
--- document 01's session
+-- a session
 session : lines ("K\t1E\t1" ∷ "M\t3\t-2" ∷ "B\t13" ∷ "K\t1E\t0" ∷ "B\t11" ∷ [])
     ≡ Good (Key 0x1E true) ∷ Good (Move (pos 3) (negsuc 1)) ∷ Good (Byte 0x13) ∷ Good (Key 0x1E false) ∷ Good (Byte 0x11) ∷ []
 unfolding rules
@@ -58,9 +58,9 @@ bad : lines ("M\t10000\t0" ∷ "M\t00064\t0" ∷ "M\t+1\t0" ∷ "M\t-\t0" ∷ "M
 unfolding rules
 bad = refl
 
--- at the front of a text: a good line and its length, and nothing where the line has not ended or is bad
+-- at the front of a text: a good line and what follows it, and nothing where the line has not ended or is bad
 fronts : map (λ (s : String). read_of (text s)) ("K\t1E\t1\nT\n" ∷ "T\nB\t1" ∷ "M\t3\t-2\n" ∷ "B\t13" ∷ "B\t1\n3\n" ∷ "\nT\n" ∷ "" ∷ [])
-    ≡ Whole (Key 0x1E true) 6 ∷ Whole Tick 1 ∷ Whole (Move (pos 3) (negsuc 1)) 6 ∷ Unread ∷ Unread ∷ Unread ∷ Unread ∷ []
+    ≡ Some (Key 0x1E true, text "T\n") ∷ Some (Tick, text "B\t1") ∷ Some (Move (pos 3) (negsuc 1), []) ∷ None ∷ None ∷ None ∷ None ∷ []
 unfolding rules
 fronts = refl
 

@@ -6,7 +6,7 @@ use native.Mathlib.Omega.{arith}
 use mathlib.Core.Path.{◌≡◌, refl, sym, ap, ◌∙◌}
 use mathlib.Core.Bool.{Bool, true, false, cond}
 use mathlib.Core.List.{List, [], ◌∷◌}
-use mathlib.Core.Option.{Option, none, some}
+use Rattle.std.specs.Prelude.{Option, None, Some}
 use lib.Dec.{eqb}
 use lib.ListN.{length, take, drop, length-drop}
 use lib.Seq.{take-length}
@@ -61,14 +61,14 @@ rest_of k l = ap (λ (n : ℕ). take n (drop k l)) (sym (length-drop k l)) ∙ t
 
 -- The first field is read: by what is read, and whether there is more.
 module _ {A : Type 0} (a : List ℕ → Option A) (l : List ℕ) where
-  module _ (e : a (first l) ≡ none) where
+  module _ (e : a (first l) ≡ None) where
     pub one_unread : (make : A → Input) → one_more a make (fields l) ≡ Bad
     one_unread make = whatever l (λ (fs : List (List ℕ)). one_more a make fs ≡ Bad) (λ fs. rw e refl)
 
     pub two_unread : {B : Type 0} (b : List ℕ → Option B) (make : A → B → Input) → two_more a b make (fields l) ≡ Bad
     two_unread b make = whatever l (λ (fs : List (List ℕ)). two_more a b make fs ≡ Bad) (λ fs. rw e refl)
 
-  module _ (x : A) (e : a (first l) ≡ some x) where
+  module _ (x : A) (e : a (first l) ≡ Some x) where
     pub one_last : length l ≤ length (first l) → (make : A → Input) → one_more a make (fields l) ≡ Good (make x)
     one_last h make = rw (only l h, e) refl
 

@@ -1,6 +1,6 @@
 -- Laws of the first line of a text that goes on behind it, and of what is read of it.
 -- Assumes nothing.
-use Prim.Native.Nat.{ℕ, zero, suc, ◌+◌, ◌≤◌, ◌<◌}
+use Prim.Native.Nat.{ℕ, zero, suc, ◌+◌, ◌-◌, ◌≤◌, ◌<◌}
 use native.Mathlib.Decide.{ℕ_discrete, dec_lt}
 use native.Mathlib.Omega.{arith}
 use mathlib.Core.Path.{◌≡◌, refl, sym, ap, ◌∙◌}
@@ -8,14 +8,14 @@ use mathlib.Core.Bool.{Bool, true, false, cond}
 use mathlib.Core.List.{List, [], ◌∷◌}
 use lib.Dec.{eqb}
 use lib.ListN.{length, take, drop, get_or, length-drop}
-use lib.Seq.{length-take-le}
+use lib.Seq.{length-take-le, drop-drop}
 use borrow.Author.Tests.{lt-ltb, le-ltb, eq-eqb, ne_eqb}
 use Rattle.controller.specs.declared.Input.{Input}
-use Rattle.text.specs.declared.Read.TheVariants.{Whole, Unread}
 use Rattle.text.specs.Line.{Line, Good, Bad, line_feed}
-use Rattle.text.specs.Fronts.{until}
-use Rattle.text.specs.Reading.{first_line, read_as, reads}
-use Rattle.text.proofs.Fields.{until_most}
+use Rattle.std.specs.Prelude.{Option, Some, None}
+use Rattle.text.specs.Fronts.{until, followed, upto}
+use Rattle.text.specs.Reading.{first_line, input}
+use Rattle.text.proofs.Fields.{until_most, rest_of}
 
 -- ---- what stands up to a stop
 
@@ -113,46 +113,54 @@ parts a b (c ∷ s) d h f =
 
 -- ---- what is read
 
-pub unread : (before : ℕ) (s : List ℕ) (m : Line) → (length (first_line s) < length s → m ≡ Bad) → Unread ≡ reads before s m
-unfolding reads
-unread before s m h =
+-- the input of the first line, which is read by m, and the text after it
+abbrev pub by : (List ℕ → Line) → List ℕ → Option (Input × List ℕ)
+by m s = upto (λ l. input (m l)) line_feed s
+
+pub unread : (m : List ℕ → Line) (s : List ℕ) → (length (first_line s) < length s → m (first_line s) ≡ Bad) → None ≡ by m s
+unfolding upto
+unread m s h =
     elim (dec_lt (length (first_line s)) (length s)) [
       | yes l ↦ rw (lt-ltb (length (first_line s)) (length s) l, h l) refl
       | no l ↦ rw (le-ltb (length (first_line s)) (length s) (omega arith)) refl
     ]
 
-pub whole : (before : ℕ) (s : List ℕ) (m : Line) (i : Input) (n : ℕ) → length (first_line s) < length s → m ≡ Good i → n ≡ before + length (first_line s) → Whole i n ≡ reads before s m
-unfolding reads
-whole before s m i n h e f = rw (lt-ltb (length (first_line s)) (length s) h, e, f) refl
+pub whole : (m : List ℕ → Line) (s : List ℕ) (i : Input) → length (first_line s) < length s → m (first_line s) ≡ Good i → Some (i, drop (suc (length (first_line s))) s) ≡ by m s
+unfolding upto
+whole m s i h e = rw (lt-ltb (length (first_line s)) (length s) h, e) refl
 
 -- the same, of a text of which the first k bytes have been read
-pub later : (before k : ℕ) (s : List ℕ) (m : Line) → k ≤ length (first_line s) → reads (before + k) (drop k s) m ≡ reads before s m
-unfolding reads
-later before k s m h =
+pub later : (m n : List ℕ → Line) (k : ℕ) (s : List ℕ) → k ≤ length (first_line s) → m (first_line (drop k s)) ≡ n (first_line s) → by m (drop k s) ≡ by n s
+unfolding upto
+later m n k s h e =
     let p : length (first_line (drop k s)) + k ≡ length (first_line s) = (let e = ap length (until_drop line_feed k s h) in omega (arith, length-drop k (first_line s))) in
-    let q : length (drop k s) + k ≡ length s = (let e = until_most line_feed s in omega (arith, length-drop k s)) in
+    let j : k + suc (length (first_line (drop k s))) ≡ suc (length (first_line s)) = omega arith in
+    let q : length (drop k s) + k ≡ length s = omega (arith, length-drop k s, until_most line_feed s) in
     elim (dec_lt (length (first_line s)) (length s)) [
-      | yes l ↦ rw (lt-ltb (length (first_line s)) (length s) l, lt-ltb (length (first_line (drop k s))) (length (drop k s)) (omega arith)) (ap (read_as m) (omega arith))
+      | yes l ↦
+          rw (lt-ltb (length (first_line s)) (length s) l, lt-ltb (length (first_line (drop k s))) (length (drop k s)) (omega arith), e)
+          (ap (λ (r : List ℕ). followed r (input (n (first_line s)))) (drop-drop (suc (length (first_line (drop k s)))) k s ∙ ap (λ (i : ℕ). drop i s) j))
       | no l ↦ rw (le-ltb (length (first_line s)) (length s) (omega arith), le-ltb (length (first_line (drop k s))) (length (drop k s)) (omega arith)) refl
     ]
 
 -- ---- lines of a kind that all have one length
-module _ (k : ℕ) (m : List ℕ → Line) (sized : (l : List ℕ) → (length l ≡ k → ⊥) → m l ≡ Bad) (before : ℕ) (s : List ℕ) where
+module _ (k : ℕ) (m : List ℕ → Line) (sized : (l : List ℕ) → (length l ≡ k → ⊥) → m l ≡ Bad) (s : List ℕ) where
   -- the line does not end there
-  pub unended : (k < length s → get_or s k 0 ≡ line_feed → ⊥) → Unread ≡ reads before s (m (first_line s))
-  unended n = unread before s (m (first_line s)) (λ h. sized (first_line s) (λ e. n (omega arith) (ap (λ (i : ℕ). get_or s i 0) (sym e) ∙ stop_at line_feed s h)))
+  pub unended : (k < length s → get_or s k 0 ≡ line_feed → ⊥) → None ≡ by m s
+  unended n = unread m s (λ h. sized (first_line s) (λ e. n (omega arith) (ap (λ (i : ℕ). get_or s i 0) (sym e) ∙ stop_at line_feed s h)))
 
   -- it is bad if it does
-  pub wrong : (k ≤ length s → m (take k s) ≡ Bad) → Unread ≡ reads before s (m (first_line s))
+  pub wrong : (k ≤ length s → m (take k s) ≡ Bad) → None ≡ by m s
   wrong h =
-      unread before s (m (first_line s)) (λ l. elim (ℕ_discrete (length (first_line s)) k) [
+      unread m s (λ l. elim (ℕ_discrete (length (first_line s)) k) [
         | yes e ↦ ap m (front line_feed s ∙ ap (λ (i : ℕ). take i s) e) ∙ h (omega arith)
         | no n ↦ sized (first_line s) n
       ])
 
-  -- it ends there, and not before
-  pub right : k < length s → get_or s k 0 ≡ line_feed → until line_feed (take k s) ≡ take k s → (i : Input) → m (take k s) ≡ Good i → Whole i (before + k) ≡ reads before s (m (first_line s))
+  -- it ends there, and not before; the rest is as a call is lent it
+  pub right : k < length s → get_or s k 0 ≡ line_feed → until line_feed (take k s) ≡ take k s → (i : Input) → m (take k s) ≡ Good i → Some (i, take (length s - (k + 1)) (drop (k + 1) s)) ≡ by m s
   right h e f i g =
       let l = stops_at line_feed k s h e f in
       let n : length (first_line s) ≡ k = ap length l ∙ length-take-le k s (omega arith) in
-      whole before s (m (first_line s)) i (before + k) (omega arith) (ap m l ∙ g) (omega arith)
+      let d : k + 1 ≡ suc (length (first_line s)) = omega arith in
+      ap (λ (r : List ℕ). Some (i, r)) (rest_of (k + 1) s ∙ ap (λ (p : ℕ). drop p s) d) ∙ whole m s i (omega arith) (ap m l ∙ g)

@@ -6,7 +6,7 @@ use native.Mathlib.Omega.{arith}
 use mathlib.Core.Path.{◌≡◌, refl}
 use mathlib.Core.Bool.{Bool, true, false, cond, ◌&&◌}
 use mathlib.Core.List.{List, [], ◌∷◌}
-use mathlib.Core.Option.{Option, none, some, map, none-ne-some, some-injective}
+use Rattle.std.specs.Prelude.{Option, None, Some, option_map}
 use lib.Dec.{eqb, leb}
 use lib.ListN.{length}
 use lib.IntN.{ℤ, pos, neg_ℤ}
@@ -40,16 +40,16 @@ fields_width (b ∷ l) = at (eqb b tab) (fields_width l)
 -- ---- what can be read is so long
 
 record Sized {A : Type 0} (a : List ℕ → Option A) (least most : ℕ) : Type 0 where
-  bounds : (f : List ℕ) (x : A) → a f ≡ some x → (least ≤ length f) × (length f ≤ most)
+  bounds : (f : List ℕ) (x : A) → a f ≡ Some x → (least ≤ length f) × (length f ≤ most)
 
-never : {A : Type 0} {P : Type 0} (x : A) → ◌≡◌ {A = Option A} none (some x) → P
-never x e = absurd (none-ne-some x e)
+never : {A : Type 0} {P : Type 0} (x : A) → ◌≡◌ {A = Option A} None (Some x) → P
+never x e = absurd cc
 
 hex_sized : Sized hex 2 2
 unfolding hex
 hex_sized = record { bounds = at }
   where
-    at : (f : List ℕ) (x : ℕ) → hex f ≡ some x → (2 ≤ length f) × (length f ≤ 2)
+    at : (f : List ℕ) (x : ℕ) → hex f ≡ Some x → (2 ≤ length f) × (length f ≤ 2)
     at [] x e = never x e
     at (a ∷ []) x e = never x e
     at (a ∷ b ∷ []) x e = (omega arith, omega arith)
@@ -59,7 +59,7 @@ level_sized : Sized level 1 1
 unfolding level
 level_sized = record { bounds = at }
   where
-    at : (f : List ℕ) (x : Bool) → level f ≡ some x → (1 ≤ length f) × (length f ≤ 1)
+    at : (f : List ℕ) (x : Bool) → level f ≡ Some x → (1 ≤ length f) × (length f ≤ 1)
     at [] x e = never x e
     at (b ∷ []) x e = (omega arith, omega arith)
     at (b ∷ c ∷ f) x e = never x e
@@ -71,11 +71,11 @@ pub record DigitsRead (f : List ℕ) (v : ℕ) : Type 0 where
   pub all : digits f ≡ true
   pub worth : value 0 f ≡ v
 
-pub natural_read : (f : List ℕ) (v : ℕ) → natural f ≡ some v → DigitsRead f v
+pub natural_read : (f : List ℕ) (v : ℕ) → natural f ≡ Some v → DigitsRead f v
 unfolding natural
 natural_read f v = at (leb 1 (length f)) (leb (length f) 4) (digits f) (λ e. e) (λ e. e) (λ e. e)
   where
-    at : (s t d : Bool) → (s ≡ true → leb 1 (length f) ≡ true) → (t ≡ true → leb (length f) 4 ≡ true) → (d ≡ true → digits f ≡ true) → cond (s && t && d) (some (value 0 f)) none ≡ some v → DigitsRead f v
+    at : (s t d : Bool) → (s ≡ true → leb 1 (length f) ≡ true) → (t ≡ true → leb (length f) 4 ≡ true) → (d ≡ true → digits f ≡ true) → cond (s && t && d) (Some (value 0 f)) None ≡ Some v → DigitsRead f v
     at false t d p q r e = never v e
     at true false d p q r e = never v e
     at true true false p q r e = never v e
@@ -83,31 +83,31 @@ natural_read f v = at (leb 1 (length f)) (leb (length f) 4) (digits f) (λ e. e)
       some_bytes = leb-true 1 (length f) (p refl);
       few = leb-true (length f) 4 (q refl);
       all = r refl;
-      worth = some-injective (value 0 f) v e;
+      worth = cc;
     }
 
 -- what was made of something read: that was read, and it is made of it
-pub mapped : {A B : Type 0} {P : Type 0} (g : A → B) (o : Option A) (y : B) → map g o ≡ some y → ((x : A) → o ≡ some x → g x ≡ y → P) → P
-mapped g none y e p = never y e
-mapped g (some x) y e p = p x refl (some-injective (g x) y e)
+pub mapped : {A B : Type 0} {P : Type 0} (g : A → B) (o : Option A) (y : B) → option_map g o ≡ Some y → ((x : A) → o ≡ Some x → g x ≡ y → P) → P
+mapped g None y e p = never y e
+mapped g (Some x) y e p = p x refl (cc)
 
 number_sized : Sized number 1 5
 unfolding number
 number_sized = record { bounds = at }
   where
-    tested : (b : ℕ) (f : List ℕ) (z : ℤ) (t : Bool) → cond t (map (λ n. neg_ℤ (pos n)) (natural f)) (map pos (natural (b ∷ f))) ≡ some z → (1 ≤ suc (length f)) × (suc (length f) ≤ 5)
+    tested : (b : ℕ) (f : List ℕ) (z : ℤ) (t : Bool) → cond t (option_map (λ n. neg_ℤ (pos n)) (natural f)) (option_map pos (natural (b ∷ f))) ≡ Some z → (1 ≤ suc (length f)) × (suc (length f) ≤ 5)
     tested b f z true e = mapped (λ n. neg_ℤ (pos n)) (natural f) z e (λ v r e. let h = natural_read f v r in (omega arith, omega (arith, h.few)))
     tested b f z false e = mapped pos (natural (b ∷ f)) z e (λ v r e. let h = natural_read (b ∷ f) v r in (omega arith, omega (arith, h.few)))
 
-    at : (f : List ℕ) (z : ℤ) → number f ≡ some z → (1 ≤ length f) × (length f ≤ 5)
+    at : (f : List ℕ) (z : ℤ) → number f ≡ Some z → (1 ≤ length f) × (length f ≤ 5)
     at [] z e = never z e
     at (b ∷ f) z e = tested b f z (eqb b minus) e
 
 -- ---- a length that does not fit makes a line bad
 
-pub with_bad : {A : Type 0} (o : Option A) (make : A → Line) → ((x : A) → o ≡ some x → make x ≡ Bad) → with o make ≡ Bad
-with_bad none make h = refl
-with_bad (some x) make h = h x refl
+pub with_bad : {A : Type 0} (o : Option A) (make : A → Line) → ((x : A) → o ≡ Some x → make x ≡ Bad) → with o make ≡ Bad
+with_bad None make h = refl
+with_bad (Some x) make h = h x refl
 
 none_sized : (input : Input) (fs : List (List ℕ)) → (width fs ≡ 0 → ⊥) → none_more input fs ≡ Bad
 unfolding width

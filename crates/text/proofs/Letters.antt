@@ -1,8 +1,8 @@
 -- Laws of whole lines, by their first byte and the tab after it, and of the texts that they stand at the front of.
 -- Assumes nothing.
 use Prim.Native.Char.{code}
-use Prim.Native.Nat.{ℕ, ◌-◌, ◌≤◌, ◌<◌}
-use native.Mathlib.Decide.{ℕ_discrete}
+use Prim.Native.Nat.{ℕ, suc, ◌-◌, ◌≤◌, ◌<◌}
+use native.Mathlib.Decide.{ℕ_discrete, dec_lt}
 use native.Mathlib.Omega.{arith}
 use mathlib.Core.Path.{◌≡◌, refl, sym, ap, ◌∙◌}
 use mathlib.Core.Bool.{Bool, true, false, cond}
@@ -11,13 +11,13 @@ use lib.Dec.{eqb}
 use lib.ListN.{length, take, drop, get_or}
 use borrow.Author.Tests.{ne_eqb}
 use Rattle.controller.specs.declared.Input.TheVariants.{Tick}
-use Rattle.text.specs.declared.Read.{Read}
-use Rattle.text.specs.declared.Read.TheVariants.{Whole, Unread}
+use Rattle.std.specs.Prelude.{Option, None, Some}
+use Rattle.controller.specs.declared.Input.{Input}
 use Rattle.text.specs.Line.{Good, Bad, line_feed, tab, lengthened, fields, kind, meaning, line_of}
-use Rattle.text.specs.Reading.{first_line, reads, read_of}
+use Rattle.text.specs.Reading.{first_line, line_by}
 use Rattle.text.proofs.Fields.{rest_of, none_after, whatever}
 use Rattle.text.proofs.Lengths.{either}
-use Rattle.text.proofs.FirstLines.{stops, goes_on, unread, whole, later}
+use Rattle.text.proofs.FirstLines.{stops, goes_on, until_drop, unread, whole, later}
 
 -- ---- what a line means
 
@@ -79,14 +79,14 @@ other_kind b l n =
 
 -- ---- what is read of a text
 
-pub no_line : (t : List ℕ) → length t < 2 → Unread ≡ read_of t
-unfolding read_of
-no_line t h = unread 0 t (line_of (first_line t)) (λ l. no_bytes (first_line t) (omega arith))
+pub no_line : (t : List ℕ) → length t < 2 → None ≡ line_by meaning t
+unfolding line_of
+no_line t h = unread line_of t (λ l. no_bytes (first_line t) (omega arith))
 
-bad_line : (a : ℕ) (l : List ℕ) → ((a ≡ line_feed → ⊥) → line_of (a ∷ first_line l) ≡ Bad) → Unread ≡ read_of (a ∷ l)
-unfolding read_of
+bad_line : (a : ℕ) (l : List ℕ) → ((a ≡ line_feed → ⊥) → line_of (a ∷ first_line l) ≡ Bad) → None ≡ line_by meaning (a ∷ l)
+unfolding line_of
 bad_line a l h =
-    unread 0 (a ∷ l) (line_of (first_line (a ∷ l))) (λ k. elim (ℕ_discrete a line_feed) [
+    unread line_of (a ∷ l) (λ k. elim (ℕ_discrete a line_feed) [
       | yes e ↦ no_bytes (first_line (a ∷ l)) (ap length (stops line_feed a l e))
       | no n ↦ ap line_of (goes_on line_feed a l n) ∙ h n
     ])
@@ -97,42 +97,61 @@ front_two (a ∷ []) h = absurd (omega arith)
 front_two (a ∷ b ∷ t) h = refl
 
 module _ (t : List ℕ) (h : 2 ≤ length t) where
-  bad_front : ((get_or t 0 0 ≡ line_feed → ⊥) → line_of (get_or t 0 0 ∷ first_line (get_or t 1 0 ∷ drop 2 t)) ≡ Bad) → Unread ≡ read_of t
-  bad_front w = bad_line (get_or t 0 0) (get_or t 1 0 ∷ drop 2 t) w ∙ ap read_of (front_two t h)
+  bad_front : ((get_or t 0 0 ≡ line_feed → ⊥) → line_of (get_or t 0 0 ∷ first_line (get_or t 1 0 ∷ drop 2 t)) ≡ Bad) → None ≡ line_by meaning t
+  bad_front w = bad_line (get_or t 0 0) (get_or t 1 0 ∷ drop 2 t) w ∙ ap (line_by meaning) (front_two t h)
 
   module _ (e : get_or t 1 0 ≡ line_feed) where
     ended : first_line (get_or t 1 0 ∷ drop 2 t) ≡ []
     ended = stops line_feed (get_or t 1 0) (drop 2 t) e
 
-    pub tick : get_or t 0 0 ≡ code "T" → Whole Tick 1 ≡ read_of t
-    unfolding read_of
+    pub tick : get_or t 0 0 ≡ code "T" → Some (Tick, take (length t - 2) (drop 2 t)) ≡ line_by meaning t
+    unfolding line_of
     tick f =
         let a = get_or t 0 0 in
         let l : first_line t ≡ a ∷ [] = ap first_line (sym (front_two t h)) ∙ goes_on line_feed a (get_or t 1 0 ∷ drop 2 t) (λ g. omega arith) ∙ ap (λ (r : List ℕ). a ∷ r) ended in
-        whole 0 t (line_of (first_line t)) Tick 1 (omega (arith, ap length l)) (ap line_of l ∙ tick_alone a f) (omega (arith, ap length l))
+        ap (λ (r : List ℕ). Some (Tick, r)) (rest_of 2 t ∙ ap (λ (k : ℕ). drop (suc k) t) (sym (ap length l))) ∙ whole line_of t Tick (omega (arith, ap length l)) (ap line_of l ∙ tick_alone a f)
 
-    pub no_tick : (get_or t 0 0 ≡ code "T" → ⊥) → Unread ≡ read_of t
+    pub no_tick : (get_or t 0 0 ≡ code "T" → ⊥) → None ≡ line_by meaning t
     no_tick f = bad_front (λ n. ap (λ (r : List ℕ). line_of (get_or t 0 0 ∷ r)) ended ∙ other_alone (get_or t 0 0) f)
 
   module _ (n : get_or t 1 0 ≡ line_feed → ⊥) where
     second : first_line (get_or t 1 0 ∷ drop 2 t) ≡ get_or t 1 0 ∷ first_line (drop 2 t)
     second = goes_on line_feed (get_or t 1 0) (drop 2 t) n
 
-    pub no_tab : (get_or t 1 0 ≡ tab → ⊥) → Unread ≡ read_of t
+    pub no_tab : (get_or t 1 0 ≡ tab → ⊥) → None ≡ line_by meaning t
     no_tab m = bad_front (λ k. ap (λ (r : List ℕ). line_of (get_or t 0 0 ∷ r)) second ∙ untabbed (get_or t 0 0) (get_or t 1 0) (first_line (drop 2 t)) m)
 
   module _ (e : get_or t 1 0 ≡ tab) where
     -- the line is of a kind, and the rest of it is lent to a call
-    pub by_kind : (q : Read) (b : ℕ) → get_or t 0 0 ≡ b → (b ≡ line_feed → ⊥) → q ≡ reads 2 (take (length t - 2) (drop 2 t)) (kind b (fields (first_line (take (length t - 2) (drop 2 t))))) → q ≡ read_of t
-    unfolding read_of
+    pub by_kind : (q : Option (Input × List ℕ)) (b : ℕ) → get_or t 0 0 ≡ b → (b ≡ line_feed → ⊥) → q ≡ line_by (kind b) (take (length t - 2) (drop 2 t)) → q ≡ line_by meaning t
+    unfolding line_of
     by_kind q b f n g =
         let a = get_or t 0 0 in
         let l : first_line t ≡ a ∷ get_or t 1 0 ∷ first_line (drop 2 t) = ap first_line (sym (front_two t h)) ∙ goes_on line_feed a (get_or t 1 0 ∷ drop 2 t) (λ k. n (sym f ∙ k)) ∙ ap (λ (r : List ℕ). a ∷ r) (second (λ k. omega arith)) in
         g
-        ∙ (λ i. reads 2 (rest_of 2 t i) (kind (sym f i) (fields (first_line (rest_of 2 t i)))))
-        ∙ ap (reads 2 (drop 2 t)) (sym (ap line_of l ∙ tabbed a (get_or t 1 0) (first_line (drop 2 t)) e))
-        ∙ later 0 2 t (line_of (first_line t)) (omega (arith, ap length l))
+        ∙ (λ i. line_by (kind (sym f i)) (rest_of 2 t i))
+        ∙ later (λ l. kind a (fields l)) (λ l. meaning (fields l)) 2 t (omega (arith, ap length l))
+        (ap (λ (r : List ℕ). kind a (fields r)) (until_drop line_feed 2 t (omega (arith, ap length l)) ∙ ap (drop 2) l) ∙ sym (means l))
+      where
+        means : {k : List ℕ} → k ≡ get_or t 0 0 ∷ get_or t 1 0 ∷ first_line (drop 2 t) → meaning (fields k) ≡ kind (get_or t 0 0) (fields (first_line (drop 2 t)))
+        means l = ap line_of l ∙ tabbed (get_or t 0 0) (get_or t 1 0) (first_line (drop 2 t)) e
 
-    pub no_kind : (get_or t 0 0 ≡ code "B" → ⊥) × (get_or t 0 0 ≡ code "K" → ⊥) × (get_or t 0 0 ≡ code "L" → ⊥) × (get_or t 0 0 ≡ code "R" → ⊥) × (get_or t 0 0 ≡ code "M" → ⊥) × (get_or t 0 0 ≡ code "S" → ⊥) × (get_or t 0 0 ≡ code "F" → ⊥) → Unread ≡ read_of t
+    pub no_kind : (get_or t 0 0 ≡ code "B" → ⊥) × (get_or t 0 0 ≡ code "K" → ⊥) × (get_or t 0 0 ≡ code "L" → ⊥) × (get_or t 0 0 ≡ code "R" → ⊥) × (get_or t 0 0 ≡ code "M" → ⊥) × (get_or t 0 0 ≡ code "S" → ⊥) × (get_or t 0 0 ≡ code "F" → ⊥) → None ≡ line_by meaning t
     no_kind n =
         bad_front (λ k. ap (λ (r : List ℕ). line_of (get_or t 0 0 ∷ r)) (second (λ k. omega arith)) ∙ tabbed (get_or t 0 0) (get_or t 1 0) (first_line (drop 2 t)) e ∙ other_kind (get_or t 0 0) (first_line (drop 2 t)) n)
+
+-- none of the kinds
+pub no_good : (t : List ℕ) → (2 ≤ length t → get_or t 0 0 ≡ code "T" → get_or t 1 0 ≡ line_feed → ⊥) → (2 ≤ length t → get_or t 0 0 ≡ code "B" → get_or t 1 0 ≡ tab → ⊥) → (2 ≤ length t → get_or t 0 0 ≡ code "K" → get_or t 1 0 ≡ tab → ⊥) → (2 ≤ length t → get_or t 0 0 ≡ code "L" → get_or t 1 0 ≡ tab → ⊥) → (2 ≤ length t → get_or t 0 0 ≡ code "R" → get_or t 1 0 ≡ tab → ⊥) → (2 ≤ length t → get_or t 0 0 ≡ code "M" → get_or t 1 0 ≡ tab → ⊥) → (2 ≤ length t → get_or t 0 0 ≡ code "S" → get_or t 1 0 ≡ tab → ⊥) → (2 ≤ length t → get_or t 0 0 ≡ code "F" → get_or t 1 0 ≡ tab → ⊥) → None ≡ line_by meaning t
+no_good t nt nb nk nl nr nm ns nf =
+    elim (dec_lt (length t) 2) [
+      | yes l ↦ no_line t l
+      | no l ↦
+          elim (ℕ_discrete (get_or t 1 0) line_feed) [
+            | yes e ↦ no_tick t (omega arith) e (λ g. nt (omega arith) g e)
+            | no f ↦
+                elim (ℕ_discrete (get_or t 1 0) tab) [
+                  | yes e ↦ no_kind t (omega arith) e (λ g. nb (omega arith) g e, λ g. nk (omega arith) g e, λ g. nl (omega arith) g e, λ g. nr (omega arith) g e, λ g. nm (omega arith) g e, λ g. ns (omega arith) g e, λ g. nf (omega arith) g e)
+                  | no g ↦ no_tab t (omega arith) f g
+                ]
+          ]
+    ]

@@ -5,9 +5,9 @@ pub mod Decimals
 pub mod Signs
 pub mod Fronts
 pub mod Fixed
-pub mod Letters
 pub mod Readings
 pub mod Counting
 pub mod Blocks
 pub mod Shown
 pub mod Examples
+pub mod Letters

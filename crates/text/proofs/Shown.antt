@@ -1,15 +1,15 @@
 -- Laws of bytes in hexadecimal, and of output lines.
 -- Assumes nothing.
 use Prim.Native.Char.{code}
-use Prim.Native.Nat.{ℕ, zero, suc, ◌+◌, ◌-◌, ◌*◌, ◌/◌, ◌%◌, ◌^◌, ◌≤◌, ◌<◌}
+use Prim.Native.Nat.{ℕ, suc, ◌+◌, ◌-◌, ◌*◌, ◌/◌, ◌%◌, ◌^◌, ◌≤◌, ◌<◌}
 use native.Mathlib.Numerals.{add-one}
 use native.Mathlib.Decide.{dec_lt}
 use native.Mathlib.Omega.{arith}
 use mathlib.Core.Path.{◌≡◌, refl, sym, ap, ◌∙◌}
 use mathlib.Core.List.{List, [], ◌∷◌, ◌++◌}
-use mathlib.Core.Option.{some}
+use Rattle.std.specs.Prelude.{Some}
 use lib.ListN.{length, take, get_or, set, length-append, length-set}
-use lib.Seq.{take-suc, length-take-le, set_split}
+use lib.Seq.{take-suc, length-take-le, set_split, take-length}
 use borrow.Author.Tests.{lt-ltb, le-ltb, le-leb, lt-leb}
 use Rattle.output.specs.Writing.{over, Wrote}
 use Rattle.output.proofs.Writing.{over_more, stored_after}
@@ -38,11 +38,11 @@ figure_back d h =
           (omega arith)
     ]
 
-pub hex_back : (b : ℕ) → b ≤ 255 → hex (hex_bytes (b ∷ [])) ≡ some b
+pub hex_back : (b : ℕ) → b ≤ 255 → hex (hex_bytes (b ∷ [])) ≡ Some b
 unfolding hex hex_bytes
 hex_back b h =
     rw (figure_back (b / 16) (omega arith), figure_back (b % 16) (omega arith), lt-ltb (b / 16) 16 (omega arith), lt-ltb (b % 16) 16 (omega arith))
-    (ap some (omega arith))
+    (ap Some (omega arith))
 
 -- the first i bytes are written, `at` places of the buffer
 pub record Listing (bytes : List ℕ) (i at : ℕ) (before after : List ℕ) : Type 0 where
@@ -74,36 +74,39 @@ listing_on bytes l X i at h k r inside room p q =
       same = length-set (set X at h) (at + 1) k ∙ length-set X at h ∙ r.same;
     }
 
-pub listing_end : (bytes l X : List ℕ) (n i at : ℕ) → Listing bytes i at l X → n ≤ length bytes → i ≡ n → Wrote (hex_bytes (take n bytes)) at l X
-listing_end bytes l X n i at r h e = record {
-  count = r.place ∙ ap (λ (m : ℕ). 2 * m) (e ∙ sym (length-take-le n bytes h)) ∙ sym (hex_length (take n bytes));
-  buffer = r.buffer ∙ ap (λ (m : ℕ). over (hex_bytes (take m bytes)) l) e;
-}
+pub listing_end : (bytes l X : List ℕ) (i at : ℕ) → Listing bytes i at l X → i ≡ length bytes → Wrote (hex_bytes bytes) at l X
+listing_end bytes l X i at r e =
+    let all : take i bytes ≡ bytes = ap (λ (m : ℕ). take m bytes) e ∙ take-length bytes in
+    record {
+      count = r.place ∙ ap (λ (m : ℕ). 2 * m) e ∙ sym (hex_length bytes);
+      buffer = r.buffer ∙ ap (λ (b : List ℕ). over (hex_bytes b) l) all;
+    }
 
 -- ---- the bytes of a line, or that there are none
 
-pub shown_none : (n : ℕ) (bytes l : List ℕ) → n ≡ 0 → 1 ≤ length l → Wrote (shown (take n bytes)) 1 l (set l 0 (code "-"))
+pub shown_none : (bytes l : List ℕ) → length bytes ≡ 0 → 1 ≤ length l → Wrote (shown bytes) 1 l (set l 0 (code "-"))
 unfolding shown over
-shown_none n bytes l e h = rw e (record { count = refl; buffer = set_split l 0 (code "-") (omega arith) })
+shown_none [] l e h = record { count = refl; buffer = set_split l 0 (code "-") (omega arith) }
+shown_none (b ∷ bytes) l e h = absurd (omega arith)
 
-shown_is : (n : ℕ) (bytes : List ℕ) → (n ≡ 0 → ⊥) → n ≤ length bytes → shown (take n bytes) ≡ hex_bytes (take n bytes)
+shown_is : (bytes : List ℕ) → (length bytes ≡ 0 → ⊥) → shown bytes ≡ hex_bytes bytes
 unfolding shown
-shown_is zero bytes e h = absurd (e refl)
-shown_is (suc n) [] e h = absurd (omega arith)
-shown_is (suc n) (b ∷ bytes) e h = refl
+shown_is [] e = absurd (e refl)
+shown_is (b ∷ bytes) e = refl
 
 -- how long they are: the minus, or two digits for each byte
-pub shown_one : (n : ℕ) (bytes : List ℕ) → n ≡ 0 → length (shown (take n bytes)) ≡ 1
+pub shown_one : (bytes : List ℕ) → length bytes ≡ 0 → length (shown bytes) ≡ 1
 unfolding shown
-shown_one n bytes e = rw e
+shown_one [] e = refl
+shown_one (b ∷ bytes) e = absurd (omega arith)
 
-pub shown_two : (n : ℕ) (bytes : List ℕ) → (n ≡ 0 → ⊥) → n ≤ length bytes → length (shown (take n bytes)) ≡ 2 * n
-shown_two n bytes e h = rw (shown_is n bytes e h, hex_length, length-take-le)
+pub shown_two : (bytes : List ℕ) → (length bytes ≡ 0 → ⊥) → length (shown bytes) ≡ 2 * length bytes
+shown_two bytes e = rw (shown_is bytes e, hex_length) refl
 
-pub shown_some : (n r : ℕ) (bytes l X : List ℕ) → (n ≡ 0 → ⊥) → n ≤ length bytes → Wrote (hex_bytes (take n bytes)) r l X → Wrote (shown (take n bytes)) r l X
-shown_some n r bytes l X e h w = rw (shown_is n bytes e h) w
+pub shown_some : (r : ℕ) (bytes l X : List ℕ) → (length bytes ≡ 0 → ⊥) → Wrote (hex_bytes bytes) r l X → Wrote (shown bytes) r l X
+shown_some r bytes l X e w = rw (shown_is bytes e) w
 
-shown_most : (bytes : List ℕ) → length (shown bytes) ≤ 2 * length bytes + 1
+pub shown_most : (bytes : List ℕ) → length (shown bytes) ≤ 2 * length bytes + 1
 unfolding shown
 shown_most [] = omega arith
 shown_most (b ∷ bytes) = omega (arith, hex_length (b ∷ bytes))

@@ -1,8 +1,7 @@
--- What a line of the text program means, given its bytes without the line feed (document 01, "The text program").
+-- What a line of the text program means, given its bytes without the line feed.
 -- This is the grammar alone: a number outside its range makes a good line, and the step refuses it.
-use Rattle.std.specs.Prelude.{ℕ, ◌+◌, ◌-◌, ◌*◌, Bool, true, false, cond, ◌&&◌, List, [], ◌∷◌, eqb, leb, ltb, length, ℤ, pos, neg_ℤ}
+use Rattle.std.specs.Prelude.{ℕ, ◌+◌, ◌-◌, ◌*◌, Bool, true, false, cond, ◌&&◌, List, [], ◌∷◌, eqb, leb, ltb, length, ℤ, pos, neg_ℤ, Option, Some, None, option_map}
 use Prim.Native.Char.{code}
-use Rattle.std.proofs.Math.Option.{Option, none, some, map}
 use Rattle.mouse.specs.declared.Side.TheVariants.{Left, Right}
 use Rattle.controller.specs.declared.Input.{Input}
 use Rattle.controller.specs.declared.Input.TheVariants.{Byte, Key, Button, Move, Joystick, Sample, Tick}
@@ -38,10 +37,10 @@ hex_digit b =
 
 -- "Hex is two upper-case digits"
 unfoldable pub hex : List ℕ → Option ℕ
-hex [] = none
-hex (a ∷ []) = none
-hex (a ∷ b ∷ []) = cond (ltb (hex_digit a) 16 && ltb (hex_digit b) 16) (some (16 * hex_digit a + hex_digit b)) none
-hex (a ∷ b ∷ c ∷ l) = none
+hex [] = None
+hex (a ∷ []) = None
+hex (a ∷ b ∷ []) = cond (ltb (hex_digit a) 16 && ltb (hex_digit b) 16) (Some (16 * hex_digit a + hex_digit b)) None
+hex (a ∷ b ∷ c ∷ l) = None
 
 -- decimal digits and nothing else
 abbrev pub digits : List ℕ → Bool
@@ -55,7 +54,7 @@ value v (b ∷ l) = value (v * 10 + (b - code "0")) l
 
 -- "1 to 4 decimal digits"
 unfoldable pub natural : List ℕ → Option ℕ
-natural f = cond (leb 1 (length f) && leb (length f) 4 && digits f) (some (value 0 f)) none
+natural f = cond (leb 1 (length f) && leb (length f) 4 && digits f) (Some (value 0 f)) None
 
 -- what stands before the digits of a number below 0
 abbrev pub minus : ℕ
@@ -63,19 +62,19 @@ minus = code "-"
 
 -- "other numbers an optional minus and 1 to 4 decimal digits"
 unfoldable pub number : List ℕ → Option ℤ
-number [] = none
-number (b ∷ f) = cond (eqb b minus) (map (λ n. neg_ℤ (pos n)) (natural f)) (map pos (natural (b ∷ f)))
+number [] = None
+number (b ∷ f) = cond (eqb b minus) (option_map (λ n. neg_ℤ (pos n)) (natural f)) (option_map pos (natural (b ∷ f)))
 
 -- "the last field of K, L and R is 0 or 1": that byte alone, 1 for down
 unfoldable pub level : List ℕ → Option Bool
-level [] = none
-level (b ∷ []) = cond (eqb b (code "0")) (some false) (cond (eqb b (code "1")) (some true) none)
-level (b ∷ c ∷ f) = none
+level [] = None
+level (b ∷ []) = cond (eqb b (code "0")) (Some false) (cond (eqb b (code "1")) (Some true) None)
+level (b ∷ c ∷ f) = None
 
 -- what is made of a field that could be read; the line is bad where it could not
 abbrev pub with : {A : Type 0} → Option A → (A → Line) → Line
-with none make = Bad
-with (some x) make = make x
+with None make = Bad
+with (Some x) make = make x
 
 -- the line has no further field, as "T" has none
 abbrev pub none_more : Input → List (List ℕ) → Line

@@ -1,4 +1,4 @@
--- What the text program prints (document 01, "The text program"): "header, then input line number, answer (9 for a bad line, taken as
+-- What the text program prints: "header, then input line number, answer (9 for a bad line, taken as
 -- no input), bytes in hex or `-`".
 use Prim.Native.Char.{code}
 use Rattle.std.specs.Prelude.{ℕ, zero, suc, ◌+◌, ◌-◌, ◌*◌, ◌/◌, ◌%◌, cond, List, [], ◌∷◌, ◌++◌, ltb}

@@ -1,9 +1,10 @@
 // Numbers and bytes as text: decimal for a line's number, hexadecimal for what was written.
-ghost use Rattle.std.specs.Prelude.{◌≡◌, ◌≤◌, ◌<◌, ◌*◌, length, take};
+ghost use Rattle.std.specs.Prelude.{◌≡◌, ◌≤◌, ◌<◌, ◌*◌, length};
 ghost use Rattle.output.specs.Writing.{Wrote};
 ghost use Rattle.text.specs.Output.{decimal, four_figures, hex_figure, hex_bytes, shown};
 
-// Four digits, zeros in front too.
+// Four digits, zeros in front too. Digits are written here and not by a library: the kit's `itoa` costs 19 instructions more for four.
+#[tactic(auto, using(crate::proofs::Blocks::four_wrote))]
 fn write_four(n: u32, out: &mut [u8]) -> usize
     requires { (n < 10000) × (4 ≤ length out.old) }
     ensures { Wrote (four_figures n) result out.old out.new }
@@ -45,42 +46,9 @@ fn write_short(n: u32, out: &mut [u8]) -> usize
     write_four(n, out)
 }
 
-// How many digits a long number has: no number of 64 bits has more than 20.
-fn count_digits(n: u64) -> usize
-    requires { 100000000 ≤ n }
-    ensures { result ≡ length (decimal n) }
-{
-    let mut count = 9;
-    let mut limit = 1_000_000_000;
-    while limit <= n {
-        if count == 19 {
-            return 20;
-        }
-        count += 1;
-        limit *= 10;
-    }
-    count
-}
-
-// The digits of a long number, from the last to the first.
-fn write_long(n: u64, out: &mut [u8]) -> usize
-    requires { (100000000 ≤ n) × (length (decimal n) ≤ length out.old) }
-    ensures { Wrote (decimal n) result out.old out.new }
-{
-    let count = count_digits(n);
-    let mut at = count;
-    let mut left = n;
-    while 10 <= left {
-        at -= 1;
-        out[at] = b'0' + (left % 10) as u8;
-        left /= 10;
-    }
-    out[0] = b'0' + left as u8;
-    count
-}
-
-// A number in decimal. Few sessions have a hundred million lines: shorter numbers are written four digits at once.
-#[tactic(auto, using(crate::proofs::Blocks::block_length, crate::proofs::Blocks::block_over))]
+// A number in decimal. Few sessions have a hundred million lines: shorter numbers are written four digits at once, and the last eight
+// digits of a longer one behind the others.
+#[tactic(auto, using(crate::proofs::Blocks::block_length, crate::proofs::Blocks::block_over, crate::proofs::Blocks::long_length))]
 pub fn write_decimal(n: u64, out: &mut [u8]) -> usize
     requires { length (decimal n) ≤ length out.old }
     ensures { Wrote (decimal n) result out.old out.new }
@@ -94,44 +62,43 @@ pub fn write_decimal(n: u64, out: &mut [u8]) -> usize
         let k = write_short(high, out);
         return k + write_four(short - high * 10_000, &mut out[k..]);
     }
-    write_long(n, out)
+    let low = (n % 100_000_000) as u32;
+    let mut at = write_decimal(n / 100_000_000, out);
+    at += write_four(low / 10_000, &mut out[at..]);
+    at + write_four(low % 10_000, &mut out[at..])
 }
 
+#[tactic(auto, unfolding(crate::specs::Output::hex_figure))]
 fn hex_figure(d: u8) -> u8
     requires { d ≤ 15 }
     ensures { result ≡ hex_figure d }
 {
-    if d < 10 {
-        return b'0' + d;
-    }
-    b'A' + (d - 10)
+    if d < 10 { b'0' + d } else { b'A' + (d - 10) }
 }
 
 // Two digits for each byte.
-fn write_hex(bytes: &[u8], n: usize, out: &mut [u8]) -> usize
-    requires { (n ≤ length bytes.now) × (2 * n ≤ length out.old) }
-    ensures { Wrote (hex_bytes (take n bytes.now)) result out.old out.new }
+fn write_hex(bytes: &[u8], out: &mut [u8]) -> usize
+    requires { 2 * length bytes.now ≤ length out.old }
+    ensures { Wrote (hex_bytes bytes.now) result out.old out.new }
 {
-    let mut i = 0;
     let mut at = 0;
-    while i < n {
-        let b = bytes[i];
-        out[at] = hex_figure(b / 16);
-        out[at + 1] = hex_figure(b % 16);
+    for b in bytes {
+        out[at] = hex_figure(*b / 16);
+        out[at + 1] = hex_figure(*b % 16);
         at += 2;
-        i += 1;
     }
     at
 }
 
-// The first `n` of `bytes` in hexadecimal, or that there are none.
-pub fn write_shown(bytes: &[u8], n: usize, out: &mut [u8]) -> usize
-    requires { (n ≤ length bytes.now) × (length (shown (take n bytes.now)) ≤ length out.old) }
-    ensures { Wrote (shown (take n bytes.now)) result out.old out.new }
+// The bytes in hexadecimal, or that there are none.
+#[tactic(auto, using(crate::proofs::Shown::shown_none, crate::proofs::Shown::shown_one, crate::proofs::Shown::shown_two))]
+pub fn write_shown(bytes: &[u8], out: &mut [u8]) -> usize
+    requires { length (shown bytes.now) ≤ length out.old }
+    ensures { Wrote (shown bytes.now) result out.old out.new }
 {
-    if n == 0 {
+    if bytes.is_empty() {
         out[0] = b'-';
         return 1;
     }
-    write_hex(bytes, n, out)
+    write_hex(bytes, out)
 }

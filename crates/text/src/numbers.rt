@@ -1,129 +1,73 @@
-// Numbers in a line: hexadecimal digits, and the number that is the first field of a text, up to the tab or the line feed that ends it.
-ghost use Rattle.std.specs.Prelude.{◌<◌, ◌≡◌, ◌∷◌, []};
-ghost use Rattle.text.specs.Line.{hex_digit, hex, minus};
-ghost use Rattle.text.specs.Fronts.{hex_read, digits_of, front_of};
+// Numbers in a line: hexadecimal digits, down or up, and the number that is the first field of a text, up to the tab or the line feed
+// that ends it.
+ghost use Rattle.std.specs.Prelude.{◌<◌, ◌≤◌, ◌≡◌, ◌∷◌, [], IfSome};
+ghost use Rattle.std.specs.Option.{unwrap_or};
+ghost use Rattle.text.specs.Line.{hex_digit, hex, level, natural, number, minus};
+ghost use Rattle.text.specs.Fronts.{upto, seen};
 
-// The byte that two hexadecimal digits make.
-#[derive(Clone, Copy)]
-pub enum HexField {
-    Hex(u8),
-    NoHex,
-}
-
-// The digits that are the first field of a text: the number that they make, and the field's length.
-#[derive(Clone, Copy)]
-pub enum Digits {
-    Natural { value: u16, len: usize },
-    NoNatural,
-}
-
-// The number that is the first field of a text, and the field's length.
-#[derive(Clone, Copy)]
-pub enum Front {
-    Number { value: i16, len: usize },
-    NoNumber,
-}
-
-// The value of an upper-case digit; 16 for any other byte.
+// The value of an upper-case digit.
 #[tactic(auto, unfolding(crate::specs::Line::hex_digit))]
-pub fn hex_digit(b: u8) -> u8
-    ensures { result ≡ hex_digit b }
+pub fn hex_digit(b: u8) -> Option<u8>
+    ensures value { unwrap_or result 16 ≡ hex_digit b }
+    ensures digit { IfSome result (λ d. d ≤ 15) }
 {
-    if b < b'0' {
-        return 16;
+    match b {
+        b'0'..=b'9' => Some(b - b'0'),
+        b'A'..=b'F' => Some(b - b'A' + 10),
+        _ => None,
     }
-    if b <= b'9' {
-        return b - b'0';
-    }
-    if b < b'A' {
-        return 16;
-    }
-    if b <= b'F' {
-        return b - b'A' + 10;
-    }
-    16
 }
 
-pub(crate) fn hex_field(a: u8, b: u8) -> HexField
-    ensures { result ≡ hex_read (hex (a ∷ b ∷ [])) }
+// The byte that two digits make.
+#[tactic(auto, unfolding(crate::specs::Line::hex))]
+pub(crate) fn hex(a: u8, b: u8) -> Option<u8>
+    ensures { result ≡ hex (a ∷ b ∷ []) }
 {
-    let high = hex_digit(a);
-    if 15 < high {
-        return HexField::NoHex;
-    }
-    let low = hex_digit(b);
-    if 15 < low {
-        return HexField::NoHex;
-    }
-    HexField::Hex(16 * high + low)
+    Some(16 * hex_digit(a)? + hex_digit(b)?)
 }
 
-// The digits up to `stop`, at which the field ends. The first byte is tested by itself, so that the loop need not ask whether there
-// was a digit.
-#[tactic(auto, using(crate::proofs::Decimals::long_field))]
-fn first_digits(s: &[u8], stop: u8) -> Digits
+// Down or up.
+#[tactic(auto, unfolding(crate::specs::Line::level))]
+pub(crate) fn level(b: u8) -> Option<bool>
+    ensures { result ≡ level (b ∷ []) }
+{
+    match b {
+        b'0' => Some(false),
+        b'1' => Some(true),
+        _ => None,
+    }
+}
+
+// The most digits of a number.
+const MOST_DIGITS: usize = 4;
+
+// The digits up to `stop`, at which the field ends, and the text after it.
+fn digits(s: &[u8], stop: u8) -> Option<(u16, &[u8])>
     requires { stop < minus }
-    ensures { result ≡ digits_of stop s.now }
+    ensures value { seen result ≡ upto natural stop s.now }
+    ensures small { IfSome result (λ p. p.0 ≤ 9999) }
 {
-    let n = s.len();
-    if n == 0 {
-        return Digits::NoNatural;
-    }
-    let d = s[0];
-    if d < b'0' {
-        return Digits::NoNatural;
-    }
-    if b'9' < d {
-        return Digits::NoNatural;
-    }
-    let mut value = (d - b'0') as u16;
-    let mut i = 1;
-    while i < n {
-        let d = s[i];
-        if d == stop {
-            return Digits::Natural { value, len: i };
+    let mut value = 0;
+    for (i, b) in s.iter().enumerate() {
+        match *b {
+            b'0'..=b'9' if i < MOST_DIGITS => value = value * 10 + u16::from(*b - b'0'),
+            end if end == stop && 0 < i => return Some((value, &s[i + 1..])),
+            _ => return None,
         }
-        if d < b'0' {
-            return Digits::NoNatural;
-        }
-        if b'9' < d {
-            return Digits::NoNatural;
-        }
-        if i == 4 {
-            return Digits::NoNatural;
-        }
-        value = value * 10 + (d - b'0') as u16;
-        i += 1;
     }
-    Digits::NoNatural
+    None
 }
 
 // An optional minus, and the digits.
-pub(crate) fn first_number(s: &[u8], stop: u8) -> Front
+#[tactic(auto, using(crate::proofs::Signs::negative, crate::proofs::Signs::positive))]
+pub(crate) fn number(s: &[u8], stop: u8) -> Option<(i16, &[u8])>
     requires { stop < minus }
-    ensures { result ≡ front_of stop s.now }
+    ensures { seen result ≡ upto number stop s.now }
 {
-    if s.len() == 0 {
-        return Front::NoNumber;
+    if let [b'-', rest @ ..] = s {
+        let (n, rest) = digits(rest, stop)?;
+        return Some((-(n as i16), rest));
     }
-    if s[0] == b'-' {
-        match first_digits(&s[1..], stop) {
-            Digits::Natural { value, len } => {
-                let n = value as i16;
-                Front::Number {
-                    value: 0 - n,
-                    len: len + 1,
-                }
-            }
-            Digits::NoNatural => Front::NoNumber,
-        }
-    } else {
-        match first_digits(s, stop) {
-            Digits::Natural { value, len } => Front::Number {
-                value: value as i16,
-                len,
-            },
-            Digits::NoNatural => Front::NoNumber,
-        }
-    }
+    let (n, rest) = digits(s, stop)?;
+    Some((n as i16, rest))
 }

@@ -6,172 +6,105 @@
 // line of none. For every line its number in the session, the answer and the bytes are printed, as the text program prints them.
 #![tactic(auto)]
 
-ghost use Rattle.std.specs.Prelude.{◌≡◌, ◌+◌, ◌≤◌, ◌<◌, ◌^◌, length};
-ghost use Rattle.controller.specs.State.{IsState, queue_room};
+ghost use Rattle.std.specs.Prelude.{◌≡◌, ◌+◌, ◌≤◌, ◌<◌, ◌^◌, IfSome, length};
+ghost use Rattle.controller.specs.State.{IsState, most_due, queue_room};
 ghost use Rattle.text.specs.Reading.{first_line};
 ghost use Rattle.text.specs.Output.{line_room};
 
+use blocks::{BLOCK, Lines, MOST_BLOCKS, Part};
 use controller::State;
+use std::io;
 use std::io::{Read, Write};
-
-// How many bytes a block has.
-const BLOCK: usize = 65_536;
-
-// How many blocks are read at most: more than any input has, and few enough that a line's number has 64 bits.
-const MOST_BLOCKS: u64 = 140_737_488_355_328;
 
 // The most bytes of a line of `load`.
 const MOST_LINE: usize = 16_384;
 
-// How much is kept of a line that lies across two blocks: with one byte more it is bad, whatever follows.
-const MOST_KEPT: usize = MOST_LINE + 1;
-
-// How many bytes stand before the hexadecimal digits of a line of `load`.
-const LOAD: usize = 7;
-
-// A session between two lines: the state, the number of the next line, and how many bytes are lent with each input.
-#[derive(Clone, Copy)]
-pub struct Session {
-    pub state: State,
-    pub number: u64,
-    pub lent: usize,
-}
-
 // What no input tells: the bytes that wait, how many keys are held, the report of absolute mode, or the saved line.
-#[derive(Clone, Copy)]
+#[derive(Clone, Copy, Debug, PartialEq, Eq)]
 pub enum Question {
-    None,
     Queue,
     Lamp,
     Look,
     Save,
 }
 
-// What a line came to: the session behind it, and how many bytes were printed.
+// Sessions, one after the other: the state, the number of the next line, the buffer, and how many bytes of it are lent with each input.
 #[derive(Drop)]
-pub struct Printed {
-    pub session: Session,
-    pub count: usize,
+pub struct Sessions {
+    pub state: State,
+    pub number: u64,
+    pub buffer: [u8; State::MOST_DUE],
+    pub lent: usize,
 }
 
-// What a block came to: the session, how many of its bytes were answered, and whether all answers were written.
-#[derive(Drop)]
-pub struct Answered {
-    pub session: Session,
-    pub used: usize,
-    pub written: bool,
-}
-
-fn power_up(lent: usize) -> Session
-    ensures state { IsState result.state }
-    ensures number_value { result.number ≡ 1 }
-{
-    Session {
-        state: State::power_up(),
-        number: 1,
-        lent: lent,
+// The number in a line that begins a session: `=`, a tab and one to five decimal digits.
+fn head_in(line: &[u8]) -> Option<usize> {
+    let [b'=', b'\t', digits @ ..] = line else {
+        return None;
+    };
+    if digits.is_empty() || 5 < digits.len() {
+        return None;
     }
-}
-
-// Whether a line begins a session: `=`, a tab and one to five decimal digits.
-fn is_head(line: &[u8]) -> bool {
-    let n = line.len();
-    if n < 3 {
-        return false;
-    }
-    if 7 < n {
-        return false;
-    }
-    if line[0] != b'=' {
-        return false;
-    }
-    if line[1] != b'\t' {
-        return false;
-    }
-    let mut i = 2;
-    while i < n {
-        let d = line[i];
-        if d < b'0' {
-            return false;
-        }
-        if b'9' < d {
-            return false;
-        }
-        i += 1;
-    }
-    true
-}
-
-// The number that stands in a line from its third byte on, up to five digits of it.
-fn number_in(line: &[u8]) -> usize {
     let mut value = 0;
-    let mut i = 2;
-    while i < line.len() {
-        let d = line[i];
-        if d < b'0' {
-            return value;
+    for digit in digits {
+        if !digit.is_ascii_digit() {
+            return None;
         }
-        if b'9' < d {
-            return value;
-        }
-        if 9_999 < value {
-            return value;
-        }
-        value = value * 10 + (d - b'0') as usize;
-        i += 1;
+        value = 10 * value + usize::from(*digit - b'0');
     }
-    value
+    Some(value)
 }
 
-// Whether a line is `?`, a tab and this word.
-fn asks(line: &[u8], word: &[u8]) -> bool {
-    let n = word.len();
-    if line.len() != n + 2 {
-        return false;
-    }
-    if line[0] != b'?' {
-        return false;
-    }
-    if line[1] != b'\t' {
-        return false;
-    }
-    let mut i = 0;
-    while i < n {
-        if line[i + 2] != word[i] {
-            return false;
-        }
-        i += 1;
-    }
-    true
-}
-
-fn question_in(line: &[u8]) -> Question {
-    if asks(line, b"queue") {
-        return Question::Queue;
-    }
-    if asks(line, b"lamp") {
-        return Question::Lamp;
-    }
-    if asks(line, b"look") {
-        return Question::Look;
-    }
-    if asks(line, b"save") {
-        return Question::Save;
-    }
-    Question::None
-}
-
-fn is_asked(question: Question) -> bool {
-    match question {
-        Question::None => false,
-        Question::Queue => true,
-        Question::Lamp => true,
-        Question::Look => true,
-        Question::Save => true,
+fn question_in(line: &[u8]) -> Option<Question> {
+    match line {
+        b"?\tqueue" => Some(Question::Queue),
+        b"?\tlamp" => Some(Question::Lamp),
+        b"?\tlook" => Some(Question::Look),
+        b"?\tsave" => Some(Question::Save),
+        _ => None,
     }
 }
 
-// The line of output that answers a question; none for none.
+// Whether these are bytes in hexadecimal, two upper-case digits each, or a minus for none.
+fn are_bytes(digits: &[u8]) -> bool {
+    match digits {
+        [] => false,
+        [b'-'] => true,
+        _ => digits.len() % 2 == 0 && digits.iter().all(|digit| text::hex_digit(*digit).is_some()),
+    }
+}
+
+// The bytes in a line that is `?`, a tab, `load`, a tab and bytes.
+fn load_in(line: &[u8]) -> Option<&[u8]> {
+    if MOST_LINE < line.len() {
+        return None;
+    }
+    let digits = line.strip_prefix(b"?\tload\t")?;
+    if are_bytes(digits) {
+        Some(digits)
+    } else {
+        None
+    }
+}
+
+// The bytes that these digits spell, as many as there is room for: how many.
+fn spell(digits: &[u8], out: &mut [u8]) -> usize
+    ensures { result ≤ length out.old }
+{
+    let n = out.len().min(digits.len() / 2);
+    for i in 0..n {
+        let (Some(high), Some(low)) = (
+            text::hex_digit(digits[2 * i]),
+            text::hex_digit(digits[2 * i + 1]),
+        ) else {
+            return i;
+        };
+        out[i] = 16 * high + low;
+    }
+    n
+}
+
+// The line of output that answers a question.
 fn answer_question(
     question: Question,
     state: State,
@@ -180,11 +113,10 @@ fn answer_question(
     out: &mut [u8],
 ) -> usize
     requires state { IsState state }
-    requires queue_room_in_bounds { (line_room queue_room ≤ length out.old) × (line_room (length lent.old) ≤ length out.old) }
+    requires room { (line_room queue_room ≤ length out.old) × (line_room (length lent.old) ≤ length out.old) }
     ensures { result ≤ length out.old }
 {
     match question {
-        Question::None => 0,
         Question::Queue => session::tell_queue(state, number, out),
         Question::Lamp => session::tell_lamp(state, number, out),
         Question::Look => session::tell_look(state, number, lent, out),
@@ -195,275 +127,144 @@ fn answer_question(
 // The saved line, into as much of a buffer as is lent.
 fn tell_saved(state: State, number: u64, lent: &mut [u8], out: &mut [u8]) -> usize
     requires state { IsState state }
-    requires lent_in_bounds { line_room (length lent.old) ≤ length out.old }
+    requires room { line_room (length lent.old) ≤ length out.old }
     ensures { result ≤ length out.old }
 {
-    let done = saved::write(state, lent);
-    let answer = done.answer;
-    text::write_line(number, answer.number(), lent, done.count, out)
+    let saved = saved::write(state, lent);
+    let n = saved.unwrap_or(0);
+    text::write_line(number, saved::save_number(saved), &lent[..n], out)
 }
 
-// Whether a line begins with these bytes.
-fn begins(line: &[u8], with: &[u8]) -> bool {
-    let n = with.len();
-    if line.len() < n {
-        return false;
-    }
-    let mut i = 0;
-    while i < n {
-        if line[i] != with[i] {
-            return false;
+impl Sessions {
+    // The first session, before its line.
+    #[tactic(auto, using(controller::proofs::States::power_up_is_state))]
+    fn new() -> Self
+        ensures ready { IsState result.state }
+        ensures first { result.number ≡ 1 }
+        ensures within { result.lent ≤ 8264 }
+    {
+        Sessions {
+            state: State::power_up(),
+            number: 1,
+            buffer: [0; State::MOST_DUE],
+            lent: State::MOST_DUE,
         }
-        i += 1;
     }
-    true
-}
 
-// Whether a line has bytes in hexadecimal from `from` on, two upper-case digits each, or a minus for none.
-fn has_bytes(line: &[u8], from: usize) -> bool {
-    let n = line.len();
-    if n <= from {
-        return false;
+    // The next session, with so many bytes lent.
+    #[tactic(auto, using(controller::proofs::States::power_up_is_state))]
+    fn begin(&mut self, lent: usize)
+        ensures ready { IsState self.new.state }
+        ensures first { self.new.number ≡ 1 }
+        ensures within { self.new.lent ≤ 8264 }
+    {
+        self.state = State::power_up();
+        self.number = 1;
+        self.lent = lent.min(State::MOST_DUE);
     }
-    if n - from == 1 {
-        return line[from] == b'-';
+
+    // The session goes on with empty latches.
+    fn clear(&mut self, number: u64, out: &mut [u8]) -> usize
+        requires state { IsState self.old.state }
+        requires room { line_room 0 ≤ length out.old }
+        ensures ready { IsState self.new.state }
+        ensures keeps { (self.new.number ≡ self.old.number) × (self.new.lent ≡ self.old.lent) }
+        ensures within { result ≤ length out.old }
+    {
+        self.state = self.state.cleared();
+        text::write_line(number, 0, &[], out)
     }
-    if (n - from) % 2 != 0 {
-        return false;
+
+    // The session goes on from the state that these bytes are the saved line of, or from power-up.
+    fn load(&mut self, number: u64, digits: &[u8], out: &mut [u8]) -> usize
+        requires room { line_room 0 ≤ length out.old }
+        ensures ready { IsState self.new.state }
+        ensures keeps { (self.new.number ≡ self.old.number) × (self.new.lent ≡ self.old.lent) }
+        ensures within { result ≤ length out.old }
+    {
+        let n = spell(digits, &mut self.buffer);
+        let loaded = saved::read(&self.buffer[..n]);
+        self.state = loaded.state;
+        text::write_line(number, saved::load_number(loaded.answer), &[], out)
     }
-    let mut i = from;
-    while i < n {
-        if 15 < text::hex_digit(line[i]) {
-            return false;
-        }
-        i += 1;
-    }
-    true
-}
 
-// Whether a line is `?`, a tab, `load`, a tab and bytes.
-fn loads(line: &[u8]) -> bool {
-    if MOST_LINE < line.len() {
-        return false;
-    }
-    if begins(line, b"?\tload\t") {
-        return has_bytes(line, LOAD);
-    }
-    false
-}
-
-// The byte of two hexadecimal digits.
-fn byte_of(a: u8, b: u8) -> u8 {
-    ((16 * text::hex_digit(a) as u16 + text::hex_digit(b) as u16) % 256) as u8
-}
-
-// The bytes of such a line, as many as there is room for: how many.
-fn bytes_in(line: &[u8], out: &mut [u8]) -> usize
-    ensures { result ≤ length out.old }
-{
-    let mut at = LOAD;
-    let mut count = 0;
-    while count < out.len() {
-        if line.len() < at + 2 {
-            return count;
-        }
-        out[count] = byte_of(line[at], line[at + 1]);
-        at += 2;
-        count += 1;
-    }
-    count
-}
-
-// The session goes on from this state, with the next line.
-fn go_on(session: Session, state: State, count: usize) -> Printed
-    requires state { IsState state }
-    requires number_bound { session.number + 1 < 2 ^ 64 }
-    ensures state_2 { IsState result.session.state }
-    ensures number_bound_2 { result.session.number ≤ session.number + 1 }
-    ensures count_value { result.count ≡ count }
-{
-    Printed {
-        session: Session {
-            state: state,
-            number: session.number + 1,
-            lent: session.lent,
-        },
-        count: count,
-    }
-}
-
-// The session goes on with empty latches.
-fn clear(session: Session, lent: &[u8], out: &mut [u8]) -> Printed
-    requires state { IsState session.state }
-    requires number_bound { session.number + 1 < 2 ^ 64 }
-    requires lent_in_bounds { line_room (length lent.now) ≤ length out.old }
-    ensures state_2 { IsState result.session.state }
-    ensures number_bound_2 { result.session.number ≤ session.number + 1 }
-    ensures count_in_bounds { result.count ≤ length out.old }
-{
-    let state = session.state;
-    let count = text::write_line(session.number, 0, lent, 0, out);
-    go_on(session, state.cleared(), count)
-}
-
-// The session goes on from the state that the bytes in a line are the saved line of, or from power-up.
-fn load(session: Session, line: &[u8], lent: &mut [u8], out: &mut [u8]) -> Printed
-    requires number_bound { session.number + 1 < 2 ^ 64 }
-    requires lent_in_bounds { line_room (length lent.old) ≤ length out.old }
-    ensures state { IsState result.session.state }
-    ensures number_bound_2 { result.session.number ≤ session.number + 1 }
-    ensures count_in_bounds { result.count ≤ length out.old }
-{
-    let n = bytes_in(line, lent);
-    let loaded = saved::read(&lent[..n]);
-    let answer = loaded.answer;
-    let state = loaded.state;
-    let count = text::write_line(session.number, answer.number(), lent, 0, out);
-    go_on(session, state, count)
-}
-
-fn smaller(a: usize, b: usize) -> usize
-    ensures { result ≤ b }
-{
-    if a < b { a } else { b }
-}
-
-// The line at the front of a text, of `n` bytes and a line feed.
-fn print(session: Session, text: &[u8], n: usize, lent: &mut [u8], out: &mut [u8]) -> Printed
-    requires n_value { (n ≡ length (first_line text.now)) × (n < length text.now) }
-    requires state { IsState session.state }
-    requires number_bound { session.number + 1 < 2 ^ 64 }
-    requires queue_room_in_bounds { (queue_room ≤ length lent.old) × (line_room (length lent.old) ≤ length out.old) }
-    ensures state_2 { IsState result.session.state }
-    ensures number_bound_2 { result.session.number ≤ session.number + 1 }
-    ensures count_in_bounds { result.count ≤ length out.old }
-{
-    let line = &text[..n];
-    if is_head(line) {
-        if n < out.len() {
-            output::copy(line, n, out);
+    // The line at the front of a text, of `n` bytes and a line feed: how many bytes are printed for it.
+    fn print(&mut self, text: &[u8], n: usize, out: &mut [u8]) -> usize
+        requires line { (n ≡ length (first_line text.now)) × (n < length text.now) }
+        requires ready { (IsState self.old.state) × (self.old.lent ≤ 8264) }
+        requires numbered { self.old.number + 1 < 2 ^ 64 }
+        requires room { line_room most_due ≤ length out.old }
+        ensures ready { (IsState self.new.state) × (self.new.lent ≤ 8264) }
+        ensures numbered { self.new.number ≤ self.old.number + 1 }
+        ensures within { result ≤ length out.old }
+    {
+        let line = &text[..n];
+        if let Some(lent) = head_in(line)
+            && n < out.len()
+        {
+            output::copy(line, out);
             out[n] = b'\n';
-            return Printed {
-                session: power_up(number_in(line)),
-                count: n + 1,
-            };
+            self.begin(lent);
+            return n + 1;
         }
-    }
-    if asks(line, b"clear") {
-        return clear(session, lent, out);
-    }
-    if loads(line) {
-        return load(session, line, lent, out);
-    }
-    let state = session.state;
-    let room = smaller(session.lent, lent.len());
-    let question = question_in(line);
-    if is_asked(question) {
-        let count = answer_question(question, state, session.number, &mut lent[..room], out);
-        return go_on(session, state, count);
-    }
-    let played = session::play(state, session.number, text, &mut lent[..room], out);
-    let after = played.state;
-    go_on(session, after, played.count)
-}
-
-// The lines that end in a block. A write that fails ends the program.
-fn answer<W: Write>(
-    output: &mut W,
-    session: Session,
-    block: &[u8],
-    lent: &mut [u8],
-    out: &mut [u8],
-) -> Answered
-    requires state { IsState session.state }
-    requires block_bound { session.number + length block.now < 2 ^ 64 }
-    requires queue_room_in_bounds { (queue_room ≤ length lent.old) × (line_room (length lent.old) ≤ length out.old) }
-    ensures state_2 { IsState result.session.state }
-    ensures number_bound { result.session.number ≤ session.number + result.used }
-    ensures used_in_bounds { result.used ≤ length block.now }
-{
-    let n = block.len();
-    let mut now = session;
-    let mut from = 0;
-    while from < n {
-        let end = session::line_end(block, from);
-        if end == n {
-            return Answered {
-                session: now,
-                used: from,
-                written: true,
-            };
+        let number = self.number;
+        self.number += 1;
+        if matches!(line, b"?\tclear") {
+            return self.clear(number, out);
         }
-        let printed = print(now, &block[from..], end - from, lent, out);
-        if !write_all(output, &out[..printed.count]) {
-            return Answered {
-                session: now,
-                used: from,
-                written: false,
-            };
+        if let Some(digits) = load_in(line) {
+            return self.load(number, digits, out);
         }
-        now = printed.session;
-        from = end + 1;
-    }
-    Answered {
-        session: now,
-        used: from,
-        written: true,
+        let state = self.state;
+        let lent = &mut self.buffer[..self.lent];
+        if let Some(question) = question_in(line) {
+            return answer_question(question, state, number, lent, out);
+        }
+        let played = session::play(state, number, text, lent, out);
+        self.state = played.state;
+        played.count
     }
 }
 
-// More input, behind what was kept of the block: how many bytes the block has then. A read that fails ends the input.
-fn read_on<R: Read>(input: &mut R, kept: usize, block: &mut [u8]) -> usize
-    requires { kept ≤ length block.old }
-    ensures { (kept ≤ result) × (result ≤ length block.old) }
-{
-    match input.read(&mut block[kept..]) {
-        Ok(got) => kept + got,
-        Err(_) => kept,
-    }
-}
+impl Lines for Sessions {
+    ghost number = { λ s. s.number };
 
-// Whether all of these bytes were written.
-fn write_all<W: Write>(output: &mut W, bytes: &[u8]) -> bool {
-    output.write_all(bytes).is_ok()
+    ghost is_ready = { λ s room. IsState s.state × (s.lent ≤ 8264) × (line_room most_due ≤ room) };
+
+    ghost answers = { λ _ _ _ _ _. Unit {0} };
+
+    ghost MOST_KEPT = { 16385 };
+
+    // With one byte more than a line of `load` has at most it is bad, whatever follows.
+    const MOST_KEPT: usize = MOST_LINE + 1;
+
+    // One line at a time.
+    fn answer(&mut self, text: &[u8], out: &mut [u8]) -> Part {
+        let n = session::line_end(text, 0);
+        if n == text.len() {
+            return Part { used: 0, count: 0 };
+        }
+        let count = self.print(text, n, out);
+        Part { used: n + 1, count }
+    }
 }
 
 // The lines of all sessions, block by block.
 fn run<R: Read, W: Write>(
     input: &mut R,
     output: &mut W,
-    block: &mut [u8],
-    lent: &mut [u8],
-    out: &mut [u8],
-)
-    requires block_len { length block.old ≡ 65536 }
-    requires queue_room_in_bounds { (queue_room ≤ length lent.old) × (line_room (length lent.old) ≤ length out.old) }
-{
-    let mut session = power_up(lent.len());
-    let mut kept = 0;
-    let mut blocks = MOST_BLOCKS;
-    while blocks > 0 {
-        let n = read_on(input, kept, block);
-        if n == kept {
-            let end = session::finish(block, kept);
-            answer(output, session, &block[..end], lent, out);
-            return;
-        }
-        let done = answer(output, session, &block[..n], lent, out);
-        if !done.written {
-            return;
-        }
-        session = done.session;
-        kept = session::keep_most(block, done.used, n, MOST_KEPT);
-        blocks -= 1;
-    }
+    block: &mut [u8; BLOCK],
+    out: &mut [u8; BLOCK],
+) -> io::Result<()> {
+    let mut sessions = Sessions::new();
+    blocks::run(input, output, &mut sessions, block, 0, out, MOST_BLOCKS)
 }
 
 fn main(rt: HostRuntime) {
     let mut input = rt.stdin();
     let mut output = rt.stdout();
     let mut block = [0; BLOCK];
-    let mut lent = [0; State::MOST_DUE];
     let mut out = [0; BLOCK];
-    run(&mut input, &mut output, &mut block, &mut lent, &mut out);
+    // A write that fails ends the program: nobody is left to tell, and the exit status is 0.
+    let _ = run(&mut input, &mut output, &mut block, &mut out);
 }

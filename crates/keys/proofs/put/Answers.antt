@@ -1,19 +1,13 @@
 use Prim.Native.Nat.{ℕ, ◌-◌, ◌^◌}
 use mathlib.Core.Path.{sym, ap, ◌∙◌}
 use mathlib.Core.Bool.{Bool}
-use lib.Bits.{bit_or, bit_and}
+use lib.Bits.{bit_and}
 use Rattle.keys.specs.Words.{put}
-use Rattle.keys.proofs.Words.{power_is, or_put, and_put}
+use Rattle.keys.proofs.Words.{power_is, and_put}
 use Rattle.keys.proofs.put.Goals as goal
 
-pub returns-then-on : goal.returns-then-on
-returns-then-on c =
-    let a = c.args in
-    let b = c.requires in
-    ap (bit_or a.word) (power_is a.bit b) ∙ or_put a.bit a.word ∙ ap (λ (on : Bool). put a.bit on a.word) (sym c.if-on.true)
-
-pub returns : goal.returns
-returns c =
+pub returns-else-on : goal.returns-else-on
+returns-else-on c =
     let a = c.args in
     let b = c.requires in
     ap (λ (p : ℕ). bit_and a.word (2 ^ 64 - 1 - p)) (power_is a.bit b)

@@ -8,35 +8,35 @@ use Rattle.listing.proofs.list_line.Goals as goal
 
 pub read_bytes-requires : goal.read_bytes-requires
 read_bytes-requires c =
-    let waits = few_waits _ _ c.requires.waiting_in_bounds.0 c.requires.waiting_in_bounds.1 in
-    simp (length-take, length-drop) (omega (arith, waits, c.requires.most_bytes_in_bounds.0))
+    let waits = few_waits _ _ c.requires.few.0 c.requires.few.1 in
+    simp (length-take, length-drop) (omega (arith, waits, c.requires.room.0))
 
 pub overflow_add-all : goal.overflow_add-all
-overflow_add-all c = omega (arith, joined_within c.args.bytes.now c.args.waiting c.requires.waiting_in_bounds.0 c.read_bytes.ensures c.read_bytes.auto.out c.in-Good.is, c.well_formed)
+overflow_add-all c = omega (arith, joined_within c.args.bytes.now c.args.waiting c.requires.few.0 c.read_bytes.ensures c.read_bytes.auto.out c.in-Some.is, c.well_formed)
 
 pub slice_bounds-list-end : goal.slice_bounds-list-end
-slice_bounds-list-end c = omega (arith, joined_within c.args.bytes.now c.args.waiting c.requires.waiting_in_bounds.0 c.read_bytes.ensures c.read_bytes.auto.out c.in-Good.is)
+slice_bounds-list-end c = omega (arith, joined_within c.args.bytes.now c.args.waiting c.requires.few.0 c.read_bytes.ensures c.read_bytes.auto.out c.in-Some.is)
 
-pub slice_bounds-list-end-in-Good : goal.slice_bounds-list-end-in-Good
-slice_bounds-list-end-in-Good c = sym (length-take-le _ _ (omega (arith, joined_within c.args.bytes.now c.args.waiting c.requires.waiting_in_bounds.0 c.read_bytes.ensures c.read_bytes.auto.out c.in-Good.is)))
+pub slice_bounds-list-end-2 : goal.slice_bounds-list-end-2
+slice_bounds-list-end-2 c = sym (length-take-le _ _ (omega (arith, joined_within c.args.bytes.now c.args.waiting c.requires.few.0 c.read_bytes.ensures c.read_bytes.auto.out c.in-Some.is)))
 
-pub keep_most-kept-requires : goal.keep_most-kept-requires
-keep_most-kept-requires c =
-    let all = joined_within c.args.bytes.now c.args.waiting c.requires.waiting_in_bounds.0 c.read_bytes.ensures c.read_bytes.auto.out c.in-Good.is in
+pub keep_most-requires : goal.keep_most-requires
+keep_most-requires c =
+    let all = joined_within c.args.bytes.now c.args.waiting c.requires.few.0 c.read_bytes.ensures c.read_bytes.auto.out c.in-Some.is in
     let listed = c.list-done.ensures.within in
     (within_taken _ _ listed, omega (arith, all))
 
-pub returns-in-Good-clause-lists_line : goal.returns-in-Good-clause-lists_line
-returns-in-Good-clause-lists_line c =
-    let kept = c.keep_most-kept in
-    let listed = c.list-done in line_listed _ _ c.requires.waiting_in_bounds.0 c.read_bytes.ensures c.read_bytes.auto.out c.in-Good.is refl c.requires.most_bytes_in_bounds.1 listed.ensures kept.ensures.few kept.ensures.kept
+pub returns-clause-lists_line : goal.returns-clause-lists_line
+returns-clause-lists_line c =
+    let kept = c.keep_most in
+    let listed = c.list-done in line_listed _ _ c.requires.few.0 c.read_bytes.ensures c.read_bytes.auto.out c.in-Some.is refl c.requires.room.1 listed.ensures kept.ensures.few kept.ensures.kept
 
-pub returns-in-Good-clause-fits : goal.returns-in-Good-clause-fits
-returns-in-Good-clause-fits c =
+pub returns-clause-fits : goal.returns-clause-fits
+returns-clause-fits c =
     let listed = c.list-done in inside listed.ensures.printed c.list-done.auto.out
 
-pub returns-in-BadLine-clause-lists_line : goal.returns-in-BadLine-clause-lists_line
-returns-in-BadLine-clause-lists_line c = line_refused _ _ c.requires.waiting_in_bounds.0 c.requires.waiting_in_bounds.1 c.read_bytes.ensures c.in-BadLine.is (take_at _ _ _ (length-take-le _ _ c.requires.waiting_in_bounds.0)) c.write_bad-n.ensures
+pub returns-in_default-clause-lists_line : goal.returns-in_default-clause-lists_line
+returns-in_default-clause-lists_line c = line_refused _ _ c.requires.few.0 c.requires.few.1 c.read_bytes.ensures c.in_default.is (take_at _ _ _ (length-take-le _ _ c.requires.few.0)) c.write_bad.ensures
 
-pub returns-in-BadLine-clause-fits : goal.returns-in-BadLine-clause-fits
-returns-in-BadLine-clause-fits c = inside c.write_bad-n.ensures c.write_bad-n.auto.out
+pub returns-in_default-clause-fits : goal.returns-in_default-clause-fits
+returns-in_default-clause-fits c = inside c.write_bad.ensures c.write_bad.auto.out

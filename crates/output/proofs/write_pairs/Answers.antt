@@ -1,3 +1,4 @@
+use Rattle.std.proofs.Common.{rules}
 use Prim.Native.Nat.{ℕ, ◌+◌, ◌*◌, ◌≤◌}
 use native.Mathlib.Numerals.{add-one}
 use native.Mathlib.Omega.{arith}
@@ -19,22 +20,22 @@ pair-stored l out i at make e p room =
     rw (e, n, add-one i, add-one (length (bytes (pairs i make))), pairs_more)
     (over_more (make ∷ break_of make ∷ []) (bytes (pairs i make)) l (omega arith))
 
-pub loop-i-init : goal.loop-i-init
+pub loop-init : goal.loop-init
 unfolding pairs
-loop-i-init c = (omega arith, refl, refl, over_nil c.args.out.now)
+loop-init c = (refl, refl, over_nil c.args.out.now)
 
-pub loop-i-preserved : goal.loop-i-preserved
-loop-i-preserved c =
-    let l = c.loop-i in
+pub loop-preserved : goal.loop-preserved
+loop-preserved c =
+    let l = c.loop in
     let a = c.args in
-    (omega arith, omega arith, simp length-set l.invariant.2, pair-stored a.out.now l.out l.i l.at a.make l.invariant.3 l.invariant.1 (omega arith))
+    (omega arith, simp length-set l.invariant.1, pair-stored a.out.now l.out l.counter l.at a.make l.invariant.2 l.invariant.0 (search rules))
 
 pub returns : goal.returns
 returns c =
-    let l = c.loop-i in
+    let l = c.loop in
     let a = c.args in
-    let e : l.i ≡ a.n = omega arith in
+    let e : l.counter ≡ a.n = search rules in
     record {
       count = omega (arith, pairs_length a.n a.make);
-      buffer = rw (← e) l.invariant.3;
+      buffer = rw (← e) l.invariant.2;
     }

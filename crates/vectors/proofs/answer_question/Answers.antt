@@ -1,5 +1,4 @@
 -- What is written is within its buffer.
-use Rattle.std.proofs.Common.{◌≡◌, ◌≤◌, length}
 use native.Mathlib.Omega.{arith}
 use Rattle.session.proofs.Feeding.{wrote_within}
 use Rattle.vectors.proofs.answer_question.Goals as goal

@@ -12,13 +12,13 @@ pub returns-then-is_monitoring : goal.returns-then-is_monitoring
 unfolding key_packets
 returns-then-is_monitoring c =
     let monitored = sym c.is_monitoring.ensures ∙ c.if-is_monitoring.true in
-    c.none.ensures
+    c.of.ensures
     ∙ ap (λ (t : Bool). short_of (bytes (cond t [] (scan (code_sent c.args.code c.args.down) ∷ [])))) (sym monitored)
 
 pub returns : goal.returns
 unfolding key_packets
 returns c =
     let heard = sym c.is_monitoring.ensures ∙ c.if-is_monitoring.false in
-    c.one.ensures
+    c.of-2.ensures
     ∙ ap (λ (b : ℕ). short_of (b ∷ [])) c.code_sent.ensures
     ∙ ap (λ (t : Bool). short_of (bytes (cond t [] (scan (code_sent c.args.code c.args.down) ∷ [])))) (sym heard)

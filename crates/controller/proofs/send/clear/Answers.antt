@@ -1,17 +1,15 @@
-use mathlib.Core.Path.{refl}
-use Prim.Native.Nat.{◌<◌}
-use native.Mathlib.Omega.{arith}
-use native.Mathlib.Numerals.{add-one}
-use lib.ListN.{length, length-set}
-use borrow.Author.Rules.{rules}
-use Rattle.controller.proofs.Writers.{zeros_none, zeros_more}
+use mathlib.Core.Path.{sym, ap, ◌∙◌}
+use mathlib.Core.List.{List, ◌++◌}
+use lib.ListN.{drop, replicate, length-replicate}
+use lib.Seq.{length-take-le}
+use Prim.Native.Nat.{ℕ}
+use Rattle.output.specs.Writing.{over}
 use Rattle.controller.proofs.send.clear.Goals as goal
 
-pub loop-i-init : goal.loop-i-init
-loop-i-init c = (search rules, zeros_none c.args.queue.now, refl)
-
-pub loop-i-preserved : goal.loop-i-preserved
-loop-i-preserved c =
-    let q = c.args.queue.now in
-    let inside : c.loop-i.i < length q = omega arith in
-    (omega arith, rw (c.loop-i.invariant.1, add-one) (zeros_more c.loop-i.i q inside), simp length-set c.loop-i.invariant.2)
+pub returns : goal.returns
+unfolding over
+returns c =
+    let n = c.args.n in
+    let rest = drop n c.args.queue.now in
+    ap (λ (l : List ℕ). l ++ rest) (c.fill.ensures.after (λ y e. e) ∙ ap (λ (k : ℕ). replicate k 0) (length-take-le n c.args.queue.now c.requires))
+    ∙ ap (λ (k : ℕ). replicate n 0 ++ drop k c.args.queue.now) (sym (length-replicate n 0))

@@ -1,21 +1,14 @@
 use native.Mathlib.Omega.{arith}
-use lib.ListN.{length-take, length-drop}
 use Rattle.output.proofs.Writing.{both}
 use Rattle.keys.proofs.Maps.{held_most}
-use Rattle.keys.proofs.Writing.{low_room, rest_room, all_count, both_words}
+use Rattle.keys.proofs.Writing.{rest_room, all_count, both_words}
 use Rattle.keys.proofs.Keys.write_breaks.Goals as goal
-
-pub write_word-low-requires-clause-word_in_bounds : goal.write_word-low-requires-clause-word_in_bounds
-write_word-low-requires-clause-word_in_bounds c = low_room c.args.self c.requires.keys c.args.out.now c.requires.self_in_bounds
 
 pub slice_bounds-write_word-count : goal.slice_bounds-write_word-count
 slice_bounds-write_word-count c = (rest_room c.args.self c.requires.keys c.args.out.now c.requires.self_in_bounds c.write_word-low.ensures).0
 
 pub slice_bounds-write_word-start : goal.slice_bounds-write_word-start
 slice_bounds-write_word-start c = ((rest_room c.args.self c.requires.keys c.args.out.now c.requires.self_in_bounds c.write_word-low.ensures).0)
-
-pub write_word-high-requires-clause-word_in_bounds : goal.write_word-high-requires-clause-word_in_bounds
-write_word-high-requires-clause-word_in_bounds c = simp (length-take, length-drop) (omega (arith, rest_room c.args.self c.requires.keys c.args.out.now c.requires.self_in_bounds c.write_word-low.ensures))
 
 pub overflow_add-result : goal.overflow_add-result
 overflow_add-result c = omega (arith, all_count c.args.self c.requires.keys c.args.out.now c.requires.self_in_bounds c.write_word-low.ensures c.write_word-high.ensures, held_most c.args.self)

@@ -1,15 +1,12 @@
-use native.Mathlib.Omega.{arith}
-use Rattle.listing.proofs.Reading.{hex_first, hex_second, hex_on, hex_end}
+use Rattle.std.proofs.Common.{rules}
+use borrow.Author.Tests.{tests}
+use Rattle.std.proofs.lemmas.Iterator.{YieldsList-from_slice}
+use Rattle.std.proofs.lemmas.Iterator.Search.{all_from_yields_List}
+use Rattle.listing.proofs.Reading.{is_hex_digit, digit_is_some, even_digits, odd_digits}
 use Rattle.listing.proofs.input.is_hex.Goals as goal
 
-pub returns-then-hex_digit-gt15 : goal.returns-then-hex_digit-gt15
-returns-then-hex_digit-gt15 c = hex_first c.loop-i.invariant (omega arith) c.hex_digit.ensures c.if-hex_digit-gt15.true
+pub returns-then-field-eq0 : goal.returns-then-field-eq0
+returns-then-field-eq0 c = even_digits _ c.if-field-eq0.true (all_from_yields_List is_hex_digit _ _ _ c.all.ensures.ran (YieldsList-from_slice c.args.field.now cc) (λ x b q k. search (rules, tests, digit_is_some)))
 
-pub returns-then-hex_digit-gt15-2 : goal.returns-then-hex_digit-gt15-2
-returns-then-hex_digit-gt15-2 c = hex_second c.loop-i.invariant (omega arith) c.hex_digit.ensures c.if-hex_digit-gt15.false c.hex_digit-in-loop-i.ensures c.if-hex_digit-gt15-2.true
-
-pub loop-i-preserved : goal.loop-i-preserved
-loop-i-preserved c = hex_on c.loop-i.invariant (omega arith) c.hex_digit.ensures c.if-hex_digit-gt15.false c.hex_digit-in-loop-i.ensures c.if-hex_digit-gt15-2.false
-
-pub returns : goal.returns
-returns c = hex_end c.loop-i.invariant (omega (arith, c.loop-i.invariant.within))
+pub returns-else-field-eq0 : goal.returns-else-field-eq0
+returns-else-field-eq0 c = odd_digits _ c.if-field-eq0.false

@@ -22,21 +22,21 @@ pub slice_bounds-put_queue-count : goal.slice_bounds-put_queue-count
 slice_bounds-put_queue-count c =
     let front-count : c.put_fields-at.result + c.put_map-at.result ≤ field_width * numbered + map_width = (let m = c.args.state.keys in
     omega (arith, c.put_fields-at.ensures.1, c.put_map-at.ensures.count, map_length m, length-append (map_text m) (tab ∷ []))) in
-    let room : line_room ≤ length c.args.out.now = c.requires.line_room_in_bounds in
+    let room : line_room ≤ length c.args.out.now = c.requires.room in
     omega (arith, front-count, (kept (both c.put_fields-at.ensures.0 c.put_map-at.ensures) (omega (arith, front-count, room))), room)
 
 pub slice_bounds-put_queue-start : goal.slice_bounds-put_queue-start
 slice_bounds-put_queue-start c =
     let front-count : c.put_fields-at.result + c.put_map-at.result ≤ field_width * numbered + map_width = (let m = c.args.state.keys in
     omega (arith, c.put_fields-at.ensures.1, c.put_map-at.ensures.count, map_length m, length-append (map_text m) (tab ∷ []))) in
-    let room : line_room ≤ length c.args.out.now = c.requires.line_room_in_bounds in
+    let room : line_room ≤ length c.args.out.now = c.requires.room in
     (omega (arith, front-count, (kept (both c.put_fields-at.ensures.0 c.put_map-at.ensures) (omega (arith, front-count, room))), room))
 
-pub put_queue-requires-clause-queue_room_in_bounds : goal.put_queue-requires-clause-queue_room_in_bounds
-put_queue-requires-clause-queue_room_in_bounds c =
+pub put_queue-requires-clause-room : goal.put_queue-requires-clause-room
+put_queue-requires-clause-room c =
     let front-count : c.put_fields-at.result + c.put_map-at.result ≤ field_width * numbered + map_width = (let m = c.args.state.keys in
     omega (arith, c.put_fields-at.ensures.1, c.put_map-at.ensures.count, map_length m, length-append (map_text m) (tab ∷ []))) in
-    let room : line_room ≤ length c.args.out.now = c.requires.line_room_in_bounds in
+    let room : line_room ≤ length c.args.out.now = c.requires.room in
     omega (arith, front-count, kept (both c.put_fields-at.ensures.0 c.put_map-at.ensures) (omega (arith, front-count, room)), room)
 
 pub overflow_add-result : goal.overflow_add-result

@@ -1,3 +1,4 @@
+use native.Mathlib.Omega.{arith}
 use mathlib.Core.Path.{refl}
 use Rattle.saved.proofs.Digits.{spelling_start, spelling_on}
 use Rattle.saved.proofs.put.put_word.Goals as goal
@@ -6,4 +7,4 @@ pub loop-i-init : goal.loop-i-init
 loop-i-init c = spelling_start _ _ _ c.requires
 
 pub loop-i-preserved : goal.loop-i-preserved
-loop-i-preserved c = spelling_on _ _ _ c.requires c.loop-i.invariant _ c.loop-i-test.true refl
+loop-i-preserved c = spelling_on _ _ _ c.requires c.loop-i.invariant _ (omega arith) refl

@@ -1,19 +1,18 @@
-use native.Mathlib.Omega.{arith}
-use Rattle.controller.specs.declared.Input.TheVariants.{Button}
-use Rattle.text.proofs.Fixed.{level_open, level_down, level_up, level_neither}
+use Rattle.std.proofs.Common.{ap, refl, arith}
+use Rattle.text.specs.Fronts.{seen}
+use Rattle.text.proofs.Fixed.{button_bad, button_is}
+use Rattle.text.proofs.kinds.button_line.Goals.{in_default-via-then-s-lt2, in_default-via-else-s-lt2+in_default-1}
 use Rattle.text.proofs.kinds.button_line.Goals as goal
 
-pub returns-then-s-lt2 : goal.returns-then-s-lt2
-returns-then-s-lt2 c = level_open (Button c.args.side) _ (λ h e. omega arith)
+pub returns-in_default : goal.returns-in_default
+returns-in_default c =
+    elim c.in_default.branch [
+      | in_default-via-then-s-lt2 w ↦ button_bad c.args.side c.args.s.now (λ h e. grind arith)
+      | in_default-via-else-s-lt2+in_default-1 w ↦ button_bad c.args.side c.args.s.now (λ h e. grind arith)
+    ]
 
-pub returns-then-s-ne10 : goal.returns-then-s-ne10
-returns-then-s-ne10 c = level_open (Button c.args.side) _ (λ h e. c.if-s-ne10.true e)
-
-pub returns-then-last-eq49 : goal.returns-then-last-eq49
-returns-then-last-eq49 c = level_down (Button c.args.side) _ c.if-s-lt2.false c.if-s-ne10.false c.if-last-eq49.true
-
-pub returns-then-last-eq48 : goal.returns-then-last-eq48
-returns-then-last-eq48 c = level_up (Button c.args.side) _ c.if-s-lt2.false c.if-s-ne10.false c.if-last-eq48.true
+pub returns-in_err-down : goal.returns-in_err-down
+returns-in_err-down c = rw (button_is c.args.side c.args.s.now (omega arith) (omega arith), ← c.in_err-down.ensures) (ap seen c.from_residual.ensures)
 
 pub returns : goal.returns
-returns c = level_neither (Button c.args.side) _ c.if-last-eq49.false c.if-last-eq48.false
+returns c = rw (button_is c.args.side c.args.s.now (omega arith) (omega arith), ← c.in_ok-down.ensures) refl

@@ -1,29 +1,19 @@
-use native.Mathlib.Omega.{arith}
-use mathlib.Core.Path.{refl}
+use Rattle.std.proofs.Common.{ap}
+use Rattle.text.specs.Fronts.{seen}
 use Rattle.controller.specs.declared.Input.TheVariants.{Joystick}
-use Rattle.text.specs.Line.{number, two_more, three_more}
-use Rattle.text.proofs.Fronts.{within, back, next_number, next_none}
+use Rattle.std.proofs.Common.{Some}
+use Rattle.text.proofs.Signs.{back}
+use Rattle.text.proofs.Fronts.{stick_is, position_is, trigger_is}
 use Rattle.text.proofs.kinds.stick_line.Goals as goal
 
-pub overflow_add-next : goal.overflow_add-next
-overflow_add-next c = omega (arith, within _ _ _ c.first_number.ensures _ _ c.in-Number.is)
+pub returns-in_err-stick : goal.returns-in_err-stick
+returns-in_err-stick c = rw (stick_is c.args.s.now, ← c.in_err-stick.ensures) (ap seen c.from_residual.ensures)
 
-pub overflow_add-next-in-Number : goal.overflow_add-next-in-Number
-overflow_add-next-in-Number c = omega (arith, within _ _ _ c.first_number.ensures _ _ c.in-Number.is)
+pub returns-in_err-position : goal.returns-in_err-position
+returns-in_err-position c = rw (stick_is c.args.s.now, ← c.in_ok-stick.ensures, position_is c.in_ok-stick.stick c.in_ok-stick.rest.now, ← c.in_err-position.ensures) (ap seen c.from_residual-in_err-position.ensures)
 
-pub slice_bounds-position_line-count : goal.slice_bounds-position_line-count
-slice_bounds-position_line-count c = omega (arith, within _ _ _ c.first_number.ensures _ _ c.in-Number.is)
+pub returns-in_err-trigger : goal.returns-in_err-trigger
+returns-in_err-trigger c = rw (stick_is c.args.s.now, ← c.in_ok-stick.ensures, position_is c.in_ok-stick.stick c.in_ok-stick.rest.now, ← c.in_ok-position.ensures, trigger_is c.in_ok-stick.stick c.in_ok-position.position c.in_ok-position.rest.now, ← c.in_err-trigger.ensures) (ap seen c.from_residual-in_err-trigger.ensures)
 
-pub slice_bounds-position_line-start : goal.slice_bounds-position_line-start
-slice_bounds-position_line-start c = omega (arith, within _ _ _ c.first_number.ensures _ _ c.in-Number.is)
-
-pub position_line-requires : goal.position_line-requires
-position_line-requires c = omega (arith, within _ _ _ c.first_number.ensures _ _ c.in-Number.is)
-
-pub returns-in-Number : goal.returns-in-Number
-returns-in-Number c =
-    let told = c.first_number.ensures in
-    next_number (three_more number number number Joystick) (λ z. two_more number number (Joystick z)) (λ f fs. refl) (λ z. refl) 2 _ _ told _ _ c.in-Number.is _ _ _ (omega arith) (λ i. two_more number number (Joystick (back _ _ _ told _ _ c.in-Number.is i))) c.position_line.ensures
-
-pub returns-in-NoNumber : goal.returns-in-NoNumber
-returns-in-NoNumber c = next_none (three_more number number number Joystick) (λ z. two_more number number (Joystick z)) (λ f fs. refl) (λ z. refl) 2 _ _ c.first_number.ensures c.in-NoNumber.is
+pub returns : goal.returns
+returns c = rw (stick_is c.args.s.now, ← c.in_ok-stick.ensures, position_is c.in_ok-stick.stick c.in_ok-stick.rest.now, ← c.in_ok-position.ensures, trigger_is c.in_ok-stick.stick c.in_ok-position.position c.in_ok-position.rest.now, ← c.in_ok-trigger.ensures) (λ i. Some (Joystick (back _ _ _ _ c.in_ok-stick.ensures i) (back _ _ _ _ c.in_ok-position.ensures i) (back _ _ _ _ c.in_ok-trigger.ensures i), c.in_ok-trigger.rest.now))

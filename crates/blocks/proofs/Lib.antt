@@ -1,0 +1,4 @@
+pub mod Known
+pub mod Fronts
+pub mod Turns
+pub mod Feeding
