@@ -33,7 +33,7 @@ pub record RefusedExactly (room : ℕ) (l : List ℕ) : Type 0 where
 abbrev pub Refused : Type 0
 Refused = (room : ℕ) (l : List ℕ) → RefusedExactly room l
 
--- "each state within the ranges has one line": `line_of` is a function, so that it has no second; and no two states have the same
+-- each state within the ranges has one line: `line_of` is a function, so that it has no second; and no two states have the same
 abbrev pub OneState : Type 0
 OneState = (s t : State) → Such queue_room s → Such queue_room t → line_of s ≡ line_of t → s ≡ t
 
