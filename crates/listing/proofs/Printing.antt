@@ -5,36 +5,32 @@ use Prim.Native.Nat.{ℕ, ◌+◌, ◌*◌, ◌≤◌}
 use native.Mathlib.Omega.{arith}
 use mathlib.Core.Path.{◌≡◌, refl, sym, ◌∙◌, subst}
 use mathlib.Core.List.{List, [], ◌∷◌, ◌++◌, append_assoc}
-use lib.Seq.{length-take-le}
-use lib.ListN.{length, take, set}
+use lib.ListN.{length, set, length-append}
 use Rattle.output.specs.Writing.{Wrote}
-use Rattle.output.proofs.Writing.{none, whole, stored_after}
+use Rattle.output.proofs.Writing.{none, stored_after}
 use Rattle.text.specs.Line.{tab}
 use Rattle.text.specs.Output.{text, decimal, shown}
 use Rattle.text.proofs.Shown.{shown_one, shown_two}
-use Rattle.listing.specs.Rows.{row, bad_row, left_row}
+use Rattle.listing.specs.Rows.{behind_name, row, bad_row, left_row}
 
 -- how long the bytes of a row can be: two digits for each, or the minus
 pub shown_room : (bytes : List ℕ) → length (shown bytes) ≤ 2 * length bytes + 1
 shown_room [] = omega (arith, shown_one [] refl)
 shown_room (b ∷ bytes) = omega (arith, shown_two (b ∷ bytes) (λ e. omega arith))
 
--- what is left for a row behind its name, and behind its bytes
-module _ (name bytes : List ℕ) {l X : List ℕ} {n : ℕ} (w : Wrote name n l X) (h : length name + 2 * length bytes + 3 ≤ length l) where
-  pub name_room : n + 2 * length bytes + 3 ≤ length l
-  name_room = omega (arith, h, w.count)
+-- what stands behind a name: the line feed comes last
+pub behind_end : (bytes : List ℕ) {l X : List ℕ} {n : ℕ} → Wrote ((tab ∷ []) ++ shown bytes) n l X → n + 1 ≤ length l → Wrote (behind_name bytes) (n + 1) l (set X n (code "\n"))
+behind_end bytes w h = stored_after (code "\n") w h
 
-  pub bytes_room : {m : ℕ} → m ≡ length (shown bytes) → n + 1 + m + 1 ≤ length l
-  bytes_room e = omega (arith, name_room, e, shown_room bytes)
+pub behind_room : (bytes : List ℕ) → length (behind_name bytes) ≤ 2 * length bytes + 3
+behind_room bytes = simp length-append (omega (arith, shown_room bytes))
 
--- its name and the tab
-pub row_start : (name : List ℕ) {l X : List ℕ} {n : ℕ} → Wrote name n l X → n + 1 ≤ length l → Wrote (name ++ (tab ∷ [])) (n + 1) l (set X n tab)
-row_start name w h = stored_after tab w h
-
--- the line feed
-pub row_end : (name bytes : List ℕ) {l X : List ℕ} {n : ℕ} → Wrote ((name ++ (tab ∷ [])) ++ shown bytes) n l X → n + 1 ≤ length l → Wrote (row name bytes) (n + 1) l (set X n (code "\n"))
+-- its name, and what stands behind it
+pub row_joined : (name bytes : List ℕ) {l X : List ℕ} {n : ℕ} → Wrote (name ++ behind_name bytes) n l X → Wrote (row name bytes) n l X
 unfolding row
-row_end name bytes w h = stored_after (code "\n") w h
+row_joined name bytes {l} {X} {n} w =
+    subst (λ (t : List ℕ). Wrote t n l X)
+    (sym (append_assoc (name ++ (tab ∷ [])) (shown bytes) (text "\n") ∙ append_assoc name (tab ∷ []) (shown bytes ++ text "\n"))) w
 
 -- the row of a bad line: behind its number the tab, the minus and the line feed
 pub bad_end : (number : ℕ) {l X : List ℕ} {n : ℕ} → Wrote ((text "bad line " ++ decimal number) ++ (tab ∷ code "-" ∷ code "\n" ∷ [])) n l X → Wrote (bad_row number) n l X

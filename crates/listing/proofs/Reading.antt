@@ -7,7 +7,7 @@ use native.Mathlib.Omega.{arith}
 use mathlib.Core.Path.{◌≡◌, refl, sym, ap, ap₂, ◌∙◌}
 use mathlib.Core.Bool.{Bool, true, false, cond, not, ◌&&◌}
 use mathlib.Core.List.{List, [], ◌∷◌, ◌++◌, append_assoc, append-nil}
-use Rattle.std.specs.Prelude.{Option, Some, None, is_some, IfSome, IsSome}
+use Rattle.std.specs.Prelude.{Option, Some, None, is_some, IfSome}
 use Rattle.std.specs.Option.{unwrap_or}
 use Rattle.std.specs.List.{list_all, position_or_len}
 use lib.Dec.{eqb, leb, ltb}
@@ -48,14 +48,6 @@ is_hex_digit b = ltb (hex_digit b) 16
 pub digit_is_some : (b : ℕ) (r : Option ℕ) → unwrap_or r 16 ≡ hex_digit b → IfSome r (λ d. d ≤ 15) → is_some r ≡ is_hex_digit b
 digit_is_some b None e h = sym (le-ltb (hex_digit b) 16 (omega arith))
 digit_is_some b (Some d) e h = sym (lt-ltb (hex_digit b) 16 (omega arith))
-
--- the digit itself, where there is one
-pub digit_there : (r : Option ℕ) {h : ℕ} → unwrap_or r 16 ≡ h → h < 16 → IsSome r
-digit_there None e h = absurd (omega arith)
-digit_there (Some d) e h = refl
-
-pub digit_is : (r : Option ℕ) {h d : ℕ} → unwrap_or r 16 ≡ h → r ≡ Some d → d ≡ h
-digit_is r e f = sym (ap (λ (o : Option ℕ). unwrap_or o 16) f) ∙ e
 
 -- they are even in number, and each is a digit
 pub hex_by_digits : (l : List ℕ) → (eqb (length l % 2) 0 && list_all is_hex_digit l) ≡ is_hex l

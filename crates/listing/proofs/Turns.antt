@@ -20,7 +20,7 @@ use Rattle.receiver.specs.Promises.{Says, whole, empty, few, none as starts_none
 use Rattle.receiver.proofs.Firsts.{is_cut, cut_says, starts_short, decided_by_length}
 use Rattle.receiver.proofs.Pieces.{cut_in_turn, in_parts}
 use Rattle.listing.specs.declared.rows.Rows.{Rows}
-use Rattle.listing.specs.Rows.{name_of, row, packet_row, piece_row, rows, row_room}
+use Rattle.listing.specs.Rows.{row, packet_row, piece_row, rows, row_room}
 use Rattle.listing.specs.Listing.{taken, ListsFirst, Lists}
 
 -- ---- the first packet
@@ -39,10 +39,6 @@ said (starts_none f) = record { within = omega arith; short = omega arith; none 
 
 pub takes : {l : List ℕ} {c : Cut} → cut l ≡ c → Takes c l
 takes e = said (cut_says e)
-
--- the row of a packet, by the name of its kind
-pub named : (k : Kind) {name : List ℕ} (bytes : List ℕ) {before after : List ℕ} {r : ℕ} → name ≡ name_of k → Wrote (row name bytes) r before after → Wrote (packet_row k bytes) r before after
-named k bytes {before = before} {after = after} {r = r} e w = subst (λ (t : List ℕ). Wrote (row t bytes) r before after) e w
 
 -- its row
 module _ (l : List ℕ) {c : Cut} {before after : List ℕ} (e : c ≡ cut l) where

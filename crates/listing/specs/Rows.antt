@@ -22,6 +22,10 @@ name_of Time = text "time"
 name_of BothSticks = text "both sticks"
 name_of StickEvent = text "stick event"
 
+-- what stands behind a name: a tab, and bytes in hex or `-`
+abbrev pub behind_name : List ℕ → List ℕ
+behind_name bytes = (tab ∷ []) ++ shown bytes ++ text "\n"
+
 -- a name, a tab, and bytes in hex or `-`
 unfoldable pub row : List ℕ → List ℕ → List ℕ
 row name bytes = (name ++ (tab ∷ [])) ++ shown bytes ++ text "\n"

@@ -1,7 +1,7 @@
 // Lines of output: a row for each packet.
 ghost use Rattle.std.specs.Prelude.{◌≡◌, ◌+◌, ◌*◌, ◌≤◌, ◌<◌, length, take};
 ghost use Rattle.output.specs.Writing.{Wrote};
-ghost use Rattle.listing.specs.Rows.{header, row, name_of, bad_row, left_row, row_room, left_room};
+ghost use Rattle.listing.specs.Rows.{header, behind_name, row, name_of, packet_row, bad_row, left_row, row_room, left_room};
 ghost use Rattle.listing.specs.Listing.{Lists, ListsFirst};
 
 use receiver::{Cut, Kind};
@@ -24,34 +24,52 @@ pub fn write_header(out: &mut [u8]) -> usize
     output::copy(b"packet\tbytes\n", out)
 }
 
-// What the rows of a kind are called.
-fn name(kind: Kind) -> &'static [u8]
-    ensures { result.now ≡ name_of kind }
+// What the rows of a kind are called. Each name is copied by a call of its own: a copy whose bytes are known is a store or two, and a list
+// of short packets is mostly names.
+fn write_name(kind: Kind, out: &mut [u8]) -> usize
+    requires { 19 ≤ length out.old }
+    ensures { Wrote (name_of kind) result out.old out.new }
 {
     match kind {
-        Kind::Make => b"make",
-        Kind::Break => b"break",
-        Kind::VersionOrBreak => b"version or break 70",
-        Kind::Status => b"status",
-        Kind::MousePosition => b"mouse position",
-        Kind::MouseMotion => b"mouse motion",
-        Kind::Time => b"time",
-        Kind::BothSticks => b"both sticks",
-        Kind::StickEvent => b"stick event",
+        Kind::Make => output::copy(b"make", out),
+        Kind::Break => output::copy(b"break", out),
+        Kind::VersionOrBreak => output::copy(b"version or break 70", out),
+        Kind::Status => output::copy(b"status", out),
+        Kind::MousePosition => output::copy(b"mouse position", out),
+        Kind::MouseMotion => output::copy(b"mouse motion", out),
+        Kind::Time => output::copy(b"time", out),
+        Kind::BothSticks => output::copy(b"both sticks", out),
+        Kind::StickEvent => output::copy(b"stick event", out),
     }
 }
 
-// A row: a name, a tab, and the bytes.
+// What stands behind the name in a row: a tab, the bytes, and the line feed.
+fn write_bytes(bytes: &[u8], out: &mut [u8]) -> usize
+    requires { 2 * length bytes.now + 3 ≤ length out.old }
+    ensures { Wrote (behind_name bytes.now) result out.old out.new }
+{
+    out[0] = b'\t';
+    let at = 1 + text::write_shown(bytes, &mut out[1..]);
+    out[at] = b'\n';
+    at + 1
+}
+
+// A row: a name, and what stands behind it.
 fn write_row(name: &[u8], bytes: &[u8], out: &mut [u8]) -> usize
     requires { length name.now + 2 * length bytes.now + 3 ≤ length out.old }
     ensures { Wrote (row name.now bytes.now) result out.old out.new }
 {
-    let mut at = output::copy(name, out);
-    out[at] = b'\t';
-    at += 1;
-    at += text::write_shown(bytes, &mut out[at..]);
-    out[at] = b'\n';
-    at + 1
+    let n = output::copy(name, out);
+    n + write_bytes(bytes, &mut out[n..])
+}
+
+// The row of a packet.
+fn write_packet(kind: Kind, bytes: &[u8], out: &mut [u8]) -> usize
+    requires { (length bytes.now ≤ 8) × (row_room ≤ length out.old) }
+    ensures { Wrote (packet_row kind bytes.now) result out.old out.new }
+{
+    let n = write_name(kind, out);
+    n + write_bytes(bytes, &mut out[n..])
 }
 
 // The row of the first packet, or of a byte that starts none; no row where there are too few bytes.
@@ -61,7 +79,7 @@ fn write_first(bytes: &[u8], out: &mut [u8]) -> Rows
 {
     match receiver::first_packet(bytes) {
         Cut::Whole { kind, length } => {
-            let n = write_row(name(kind), &bytes[..length], out);
+            let n = write_packet(kind, &bytes[..length], out);
             Rows {
                 used: length,
                 count: n,
