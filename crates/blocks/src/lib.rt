@@ -43,8 +43,8 @@ pub trait Lines {
     // How much is kept at most of a line that lies across two blocks.
     const MOST_KEPT: usize;
 
-    // The first lines that end in a text, as many as there is room for, and what is printed for them at the start of `out`. None is taken
-    // where no line ends in the text.
+    // The first lines that end in a text, and what is printed for them at the start of `out`: one at least where one ends there, and as
+    // many more as the program likes.
     fn answer(&mut self, text: &[u8], out: &mut [u8]) -> Part
         requires ready { is_ready self.old (length out.old) }
         requires numbered { number self.old + length text.now < 2 ^ 64 }
@@ -80,6 +80,7 @@ pub fn answer<W: Write, L: Lines>(
     ensures within { IfOk result (λ used. used ≤ length block.now) }
     ensures ready { L.is_ready lines.new (length out.old) }
     ensures numbered { IfOk result (λ used. L.number lines.new ≤ L.number lines.old + used) }
+    ensures numbered_on { L.number lines.new ≤ L.number lines.old + length block.now }
     ensures answered { IfOk result (λ used. (printed : List ℕ) × Answered L.answers lines.old block.now used printed lines.new
         × Appends (W.contents output.old) (W.contents output.new) printed) }
 {
