@@ -1,6 +1,6 @@
 -- What applying an input has to show at each of its returns, over plain values: core, queue and buffer.
 -- Assumes nothing.
-use Prim.Native.Nat.{ℕ, ◌+◌, ◌*◌, ◌≤◌}
+use Prim.Native.Nat.{ℕ, ◌+◌, ◌≤◌}
 use native.Mathlib.Omega.{arith}
 use mathlib.Core.Path.{◌≡◌, refl, sym, ap, ap₂, ◌∙◌, subst}
 use mathlib.Core.Bool.{◌&&◌, Bool, true, false, cond, true≢false}
@@ -26,7 +26,6 @@ use Rattle.protocol.specs.Commands.{executed, sets}
 use Rattle.mouse.specs.declared.Mouse.{Mouse}
 use Rattle.mouse.specs.declared.Side.{Side}
 use Rattle.mouse.specs.declared.Moved.{Moved}
-use Rattle.mouse.specs.Mouse.{held_limit}
 use Rattle.mouse.specs.declared.Pressed.{Pressed}
 use Rattle.mouse.specs.Sending.{packets_sent}
 use Rattle.mouse.specs.Moves.{moves}
@@ -260,7 +259,7 @@ moved_comes p σ dx dy m n t {v} f = record {
 }
 
 -- what is sent of held motion is no longer than all that falls due
-pub motion_fits : {bs : List ℕ} {e : Effect} {m : Mouse} {n : Sticks} {t : Clock} → Comes e bs m n t → length (bytes e.packets) ≤ 4 * held_limit → length bs ≤ most_due
+pub motion_fits : {bs : List ℕ} {e : Effect} {most : ℕ} {m : Mouse} {n : Sticks} {t : Clock} → Comes e bs m n t → length (bytes e.packets) ≤ most → length bs ≤ most
 motion_fits a h = omega (arith, ap length a.bytes)
 
 -- a queue of which the bytes that waited are 0 again is the empty one

@@ -198,6 +198,15 @@ live_motion_within (Keycode delta) true σ m h hm room w = record {
 }
 live_motion_within (Keycode delta) false σ m h hm room w = send_deltas_within delta m hm w
 
+-- what an event brings is as far as it says
+pub brought : (σ : Settings) (dx dy : ℤ) → (size (incoming σ dx dy).x ≡ nat_abs dx) × (size (incoming σ dx dy).y ≡ nat_abs dy)
+unfolding incoming
+brought σ dx dy = (signed_size dx, by (negates_dy σ.mouse σ.bottom))
+  where
+    by : (t : Bool) → size (cond t (opposite (of_signed dy)) (of_signed dy)) ≡ nat_abs dy
+    by true = omega (arith, signed_size dy)
+    by false = signed_size dy
+
 -- an event adds at most what it brings
 pub added_to_held_size : (σ : Settings) (dx dy : ℤ) (held : Axes Motion) →
     (size (added_to_held σ dx dy held).x ≤ size held.x + nat_abs dx) × (size (added_to_held σ dx dy held).y ≤ size held.y + nat_abs dy)

@@ -19,7 +19,7 @@ use Rattle.sticks.specs.Commands.{commanded}
 use Rattle.sticks.proofs.Sends.{OfEach, of_stick_moved, of_ticked, of_sampled, of_commanded}
 
 -- a bit is 0 or 1
-bit_most : (b : Bool) → bit b ≤ 1
+pub bit_most : (b : Bool) → bit b ≤ 1
 bit_most true = omega arith
 bit_most false = omega arith
 

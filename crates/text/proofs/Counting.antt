@@ -1,4 +1,4 @@
--- Laws of numbers in decimal: how many digits there are, and writing them from the last to the first.
+-- Laws of numbers in decimal: how many digits there are.
 -- Assumes nothing.
 use Prim.Native.Char.{code}
 use Prim.Native.Nat.{ℕ, zero, suc, ◌+◌, ◌-◌, ◌*◌, ◌/◌, ◌%◌, ◌^◌, ◌≤◌, ◌<◌}

@@ -91,7 +91,7 @@ below_fits zero h = record { sfits = omega arith }
 below_fits (suc v) h = record { sfits = omega arith }
 
 -- every number that is read fits
-number_fits : (f : List ℕ) (z : ℤ) → number f ≡ Some z → SFits w16 z
+pub number_fits : (f : List ℕ) (z : ℤ) → number f ≡ Some z → SFits w16 z
 unfolding number
 number_fits = at
   where

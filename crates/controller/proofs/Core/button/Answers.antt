@@ -1,3 +1,4 @@
+use native.Mathlib.Omega.{arith}
 use mathlib.Core.Path.{refl, sym, ◌∙◌}
 use Rattle.controller.specs.declared.Input.TheVariants.{Button}
 use Rattle.controller.specs.Events.{event, map_after}
@@ -26,7 +27,7 @@ send-answer-requires-2-clause-counted c =
     let g : Given = record { core = c.args.self; waiting = c.args.waiting; queue = c.args.queue.now; out = c.args.out.now; good = c.requires } in
     let k = c.args.self in
     let comes = pressed_comes k.settings c.args.side c.args.down k.mouse k.sticks k.clock (sym c.gives_fire.ensures ∙ c.if-gives_fire.false) c.presses-told.ensures in
-    motion_fits comes (event_most (state_of g) (Button c.args.side c.args.down) c.requires refl)
+    omega (arith, motion_fits comes (event_most (state_of g) (Button c.args.side c.args.down) c.requires refl))
 
 pub returns-then-is_ok-2 : goal.returns-then-is_ok-2
 unfolding due in_range event too_far map_after

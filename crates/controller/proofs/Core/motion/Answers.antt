@@ -1,3 +1,4 @@
+use native.Mathlib.Omega.{arith}
 use mathlib.Core.Path.{◌≡◌, refl, sym, ◌∙◌}
 use mathlib.Core.Bool.{true, false, true≢false}
 use mir.Syntax.{w16}
@@ -56,7 +57,7 @@ send-answer-requires-clause-counted c =
     let range : c.move_in_range.result ≡ in_range (Move c.args.dx c.args.dy) = c.move_in_range.ensures ∙ (λ j. in_range (Move (x j) (y j))) in
     let told : c.moves-told.result ≡ moved_of (moves k.paused k.settings c.args.dx c.args.dy k.mouse) = c.moves-told.ensures ∙ (λ j. moved_of (moves k.paused k.settings (x j) (y j) k.mouse)) in
     let moved = moved_comes k.paused k.settings c.args.dx c.args.dy k.mouse k.sticks k.clock told in
-    motion_fits moved (event_most (state_of g) (Move c.args.dx c.args.dy) c.requires (sym range ∙ c.if-not-move_in_range.false))
+    omega (arith, motion_fits moved (event_most (state_of g) (Move c.args.dx c.args.dy) c.requires (sym range ∙ c.if-not-move_in_range.false)))
 
 pub returns-then-is_ok : goal.returns-then-is_ok
 unfolding due event map_after too_far
