@@ -28,7 +28,7 @@ pub enum Kind {
 }
 
 // The first packet of received bytes: its kind and its length; or that more bytes must come first; or that no packet begins so.
-// No Option and no Result: three outcomes, each of which a host goes on from in a way of its own (`cut` and `number` name them).
+// No Option and no Result: three outcomes, each of which a host goes on from in a way of its own (`cut` names them).
 #[derive(Clone, Copy, Debug, PartialEq, Eq)]
 pub enum Cut {
     Whole { kind: Kind, length: usize },

@@ -25,7 +25,6 @@ impl Sticks {
     }
 
     // A command of the mouse: the three that set its mode leave a monitoring mode.
-
     #[tactic(auto, unfolding(crate::specs::Commands::mouse_commanded))]
     pub fn mouse_commanded(self, c: MouseCommand, mode: StickMode) -> Sticks
         ensures { result ≡ mouse_commanded c mode self }
