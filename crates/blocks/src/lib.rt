@@ -44,7 +44,7 @@ pub trait Lines {
     const MOST_KEPT: usize;
 
     // The first lines that end in a text, and what is printed for them at the start of `out`: one at least where one ends there, and as
-    // many more as the program likes.
+    // many more as the program likes. None is taken where no line ends in the text.
     fn answer(&mut self, text: &[u8], out: &mut [u8]) -> Part
         requires ready { is_ready self.old (length out.old) }
         requires numbered { number self.old + length text.now < 2 ^ 64 }

@@ -7,7 +7,7 @@ use mathlib.Core.Path.{◌≡◌, refl, sym, ◌∙◌, subst}
 use mathlib.Core.List.{List, [], ◌∷◌, ◌++◌, append_assoc}
 use lib.ListN.{length, set, length-append}
 use Rattle.output.specs.Writing.{Wrote}
-use Rattle.output.proofs.Writing.{none, stored_after}
+use Rattle.output.proofs.Writing.{none, stored, stored_after}
 use Rattle.text.specs.Line.{tab}
 use Rattle.text.specs.Output.{text, decimal, shown}
 use Rattle.text.proofs.Shown.{shown_one, shown_two}
@@ -18,7 +18,10 @@ pub shown_room : (bytes : List ℕ) → length (shown bytes) ≤ 2 * length byte
 shown_room [] = omega (arith, shown_one [] refl)
 shown_room (b ∷ bytes) = omega (arith, shown_two (b ∷ bytes) (λ e. omega arith))
 
--- what stands behind a name: the line feed comes last
+-- what stands behind a name: the tab comes first, the line feed last
+pub tab_stored : (l : List ℕ) → 1 ≤ length l → Wrote (tab ∷ []) 1 l (set l 0 tab)
+tab_stored l h = stored tab l h
+
 pub behind_end : (bytes : List ℕ) {l X : List ℕ} {n : ℕ} → Wrote ((tab ∷ []) ++ shown bytes) n l X → n + 1 ≤ length l → Wrote (behind_name bytes) (n + 1) l (set X n (code "\n"))
 behind_end bytes w h = stored_after (code "\n") w h
 

@@ -162,7 +162,7 @@ tab_place (b ∷ l) = at (eqb b tab) (tab_place l)
     at true e = refl
     at false e = omega arith
 
-first_taken : (l : List ℕ) → take (length (first l)) l ≡ first l
+pub first_taken : (l : List ℕ) → take (length (first l)) l ≡ first l
 unfolding until
 first_taken [] = refl
 first_taken (b ∷ l) = at (eqb b tab) (first_taken l)
