@@ -3,8 +3,8 @@
 use Prim.Native.Char.{code}
 use Prim.Native.Nat.{ℕ, ◌+◌, ◌*◌, ◌≤◌}
 use native.Mathlib.Omega.{arith}
-use mathlib.Core.Path.{◌≡◌, refl, sym, ◌∙◌, subst}
-use mathlib.Core.List.{List, [], ◌∷◌, ◌++◌, append_assoc}
+use mathlib.Core.Path.{◌≡◌, refl}
+use mathlib.Core.List.{List, [], ◌∷◌, ◌++◌}
 use lib.ListN.{length, set, length-append}
 use Rattle.output.specs.Writing.{Wrote}
 use Rattle.output.proofs.Writing.{none, stored, stored_after}
@@ -28,19 +28,10 @@ behind_end bytes w h = stored_after (code "\n") w h
 pub behind_room : (bytes : List ℕ) → length (behind_name bytes) ≤ 2 * length bytes + 3
 behind_room bytes = simp length-append (omega (arith, shown_room bytes))
 
--- its name, and what stands behind it
-pub row_joined : (name bytes : List ℕ) {l X : List ℕ} {n : ℕ} → Wrote (name ++ behind_name bytes) n l X → Wrote (row name bytes) n l X
-unfolding row
-row_joined name bytes {l} {X} {n} w =
-    subst (λ (t : List ℕ). Wrote t n l X)
-    (sym (append_assoc (name ++ (tab ∷ [])) (shown bytes) (text "\n") ∙ append_assoc name (tab ∷ []) (shown bytes ++ text "\n"))) w
-
 -- the row of a bad line: behind its number the tab, the minus and the line feed
 pub bad_end : (number : ℕ) {l X : List ℕ} {n : ℕ} → Wrote ((text "bad line " ++ decimal number) ++ (tab ∷ code "-" ∷ code "\n" ∷ [])) n l X → Wrote (bad_row number) n l X
 unfolding bad_row row shown
-bad_end number {l} {X} {n} w =
-    let front = text "bad line " ++ decimal number in
-    subst (λ (t : List ℕ). Wrote t n l X) (sym (append_assoc (front ++ (tab ∷ [])) (code "-" ∷ []) (code "\n" ∷ []) ∙ append_assoc front (tab ∷ []) (code "-" ∷ code "\n" ∷ []))) w
+bad_end number w = w
 
 -- the row of the bytes that are left, if there are any
 pub left_none : (bytes l : List ℕ) → length bytes ≡ 0 → Wrote (left_row bytes) 0 l l

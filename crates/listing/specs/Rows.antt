@@ -22,13 +22,13 @@ name_of Time = text "time"
 name_of BothSticks = text "both sticks"
 name_of StickEvent = text "stick event"
 
--- what stands behind a name: a tab, and bytes in hex or `-`
+-- what stands behind a name: a tab, bytes in hex or `-`, and a line feed
 abbrev pub behind_name : List ℕ → List ℕ
 behind_name bytes = (tab ∷ []) ++ shown bytes ++ text "\n"
 
--- a name, a tab, and bytes in hex or `-`
+-- a row: a name, and what stands behind it
 unfoldable pub row : List ℕ → List ℕ → List ℕ
-row name bytes = (name ++ (tab ∷ [])) ++ shown bytes ++ text "\n"
+row name bytes = name ++ behind_name bytes
 
 -- the row of a packet
 abbrev pub packet_row : Kind → List ℕ → List ℕ

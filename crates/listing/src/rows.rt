@@ -24,8 +24,8 @@ pub fn write_header(out: &mut [u8]) -> usize
     output::copy(b"packet\tbytes\n", out)
 }
 
-// What the rows of a kind are called. Each name is copied by a call of its own: a copy whose bytes are known is a store or two, and a list
-// of short packets is mostly names.
+// What the rows of a kind are called, in 19 letters at most. Each name is copied by a call of its own: a copy whose bytes are known is a
+// store or two, and a list of short packets is mostly names.
 fn write_name(kind: Kind, out: &mut [u8]) -> usize
     requires { 19 ≤ length out.old }
     ensures { Wrote (name_of kind) result out.old out.new }

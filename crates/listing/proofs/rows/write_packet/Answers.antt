@@ -1,8 +1,8 @@
 use native.Mathlib.Omega.{arith}
 use Rattle.output.proofs.Writing.{both, kept}
-use Rattle.listing.specs.Rows.{name_of}
+use Rattle.listing.specs.Rows.{row}
 use Rattle.listing.proofs.Rooms.{name_most}
-use Rattle.listing.proofs.Printing.{behind_room, row_joined}
+use Rattle.listing.proofs.Printing.{behind_room}
 use Rattle.listing.proofs.rows.write_packet.Goals as goal
 
 pub write_bytes-requires : goal.write_bytes-requires
@@ -15,4 +15,5 @@ overflow_add-result c =
     omega (arith, c.requires, c.write_name-n.ensures.count, name_most c.args.kind, c.write_bytes.ensures.count, behind_room c.args.bytes.now)
 
 pub returns : goal.returns
-returns c = row_joined (name_of c.args.kind) c.args.bytes.now (both c.write_name-n.ensures c.write_bytes.ensures)
+unfolding row
+returns c = both c.write_name-n.ensures c.write_bytes.ensures
